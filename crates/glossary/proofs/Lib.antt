@@ -1,8 +1,8 @@
-pub mod Starts
-pub mod Walks
-pub mod Spelling
-pub mod Readback
-pub mod Writing
 pub mod Clamps
+pub mod Inverse
+pub mod Readback
+pub mod Spelling
+pub mod Starts
 pub mod Verdicts
-pub mod Labels
+pub mod Walks
+pub mod Writing

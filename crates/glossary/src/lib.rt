@@ -3,6 +3,7 @@ mod base;
 mod cursor;
 mod entries;
 mod forms;
+mod labels;
 mod limits;
 mod lookup;
 mod parts;

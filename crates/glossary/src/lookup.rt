@@ -8,8 +8,8 @@ ghost use Rattle.glossary.specs.Format.{GoodNames};
 ghost use Rattle.glossary.specs.Meaning.{names-of, offset-of};
 ghost use Rattle.glossary.specs.Names.{name-of, label-of};
 use crate::base::Glossary;
-use crate::entries::find;
-use crate::entries::pick;
+use crate::labels::label_in;
+use crate::labels::name_in;
 
 impl<'a> Glossary<'a> {
     // How many names there are; the labels are the numbers from 1 to this.
@@ -25,8 +25,7 @@ impl<'a> Glossary<'a> {
         ensures back { λ r. ⌜ ((l : ℕ) → r ≡ Some l → name-of (names-of (now (self .entry))) l ≡ Some (now (name .entry))) ⌝ }
         ensures only { λ r. ⌜ (GoodNames (names-of (now (self .entry))) → (l : ℕ) → name-of (names-of (now (self .entry))) l ≡ Some (now (name .entry)) → r ≡ Some l) ⌝ }
     {
-        let k = find(self.block, self.count, name)?;
-        Some(k + 1)
+        label_in(self.block, self.count, name)
     }
 
     // The name of a label: the part of the block that begins at the label's offset.
@@ -34,9 +33,6 @@ impl<'a> Glossary<'a> {
         ensures value { λ r. ⌜ mapped now r ≡ name-of (names-of (now (self .entry))) label ⌝ }
         ensures place { λ r. ⌜ Cases r (Unit {0}) (λ name. name .now ≡ take (length (name .now)) (drop (offset-of (now (self .entry)) label) (now (self .entry) .block .now))) ⌝ }
     {
-        if label == 0 || label > self.count {
-            return None;
-        }
-        Some(pick(self.block, label - 1))
+        name_in(self.block, self.count, label)
     }
 }

@@ -1,0 +1,13 @@
+use mathlib.Core.Path.{refl, _∙_}
+use mathlib.Core.List.{[], _∷_}
+use lib.ListN.{length}
+use Rattle.std.specs.Of.Vec.{vec-items}
+use Rattle.std.proofs.shelf.Lists.{append-assoc}
+use Rattle.std.proofs.shelf.Parts.{pushed}
+use Rattle.name_list.proofs.writing.append.Needs as need
+
+pub returns : need.returns
+returns c =
+    let name = c .args .name .now in
+    let counted = pushed (length name ∷ []) refl (c .in-Continue-push .was tt) (c .push .ensures .items) in
+    pushed name counted (c .in-Continue-extend-from-slice .was tt) (c .extend-from-slice .ensures .items) ∙ append-assoc (vec-items (c .args .block .now)) (length name ∷ []) name
