@@ -1,2 +1,4 @@
-pub mod Slices
 pub mod Judging
+pub mod Slices
+pub mod Splits
+pub mod Texts
