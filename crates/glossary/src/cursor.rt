@@ -9,7 +9,7 @@ use crate::parts::part;
 
 // It stands before the entry `number`, counted from 0, which begins at `at`.
 #[derive(Drop)]
-pub struct Cursor<'a> {
+pub(crate) struct Cursor<'a> {
     block: &'a [u8],
     number: u16,
     at: usize,
@@ -19,7 +19,7 @@ pub struct Cursor<'a> {
 
 impl<'a> Cursor<'a> {
     // Before the first entry.
-    pub fn new(block: &'a [u8]) -> Cursor<'a>
+    pub(crate) fn new(block: &'a [u8]) -> Cursor<'a>
         ensures same { λ r. ⌜ r .block .now ≡ now (block .entry) ⌝ }
         ensures first { λ r. ⌜ r .number ≡ 0 ⌝ }
     {
@@ -31,7 +31,7 @@ impl<'a> Cursor<'a> {
     }
 
     // The name of the entry, which is passed over.
-    pub fn next(&mut self) -> &'a [u8]
+    pub(crate) fn next(&mut self) -> &'a [u8]
         requires { ⌜ now self .number + 1 < 2 ^ 16 ⌝ }
         ensures value { λ r. ⌜ now r ≡ name-at (now (self .entry) .block .now) (now (self .entry) .number) ⌝ }
         ensures passed { λ _. ⌜ now (self .exit) .number ≡ now (self .entry) .number + 1 ⌝ }

@@ -13,7 +13,7 @@ use crate::forms::is_name;
 use crate::limits::HEAD_SIZE;
 
 // Where the last of `count` entries ends, or the first entry that ends past the block's end.
-pub fn end(block: &[u8], count: u16) -> Result<usize, u16>
+pub(crate) fn end(block: &[u8], count: u16) -> Result<usize, u16>
     requires { ⌜ head-size ≤ length (now block) ⌝ }
     ensures { λ r. ⌜ ByOk r (λ at. None-of (Cut (now (block .entry))) count × (at ≡ start (now (block .entry)) count) × (at ≤ length (now (block .entry)))) (λ k. First (Cut (now (block .entry))) count k) ⌝ }
 {
@@ -28,7 +28,7 @@ pub fn end(block: &[u8], count: u16) -> Result<usize, u16>
 }
 
 // The first of `count` names that is none.
-pub fn first_bad(block: &[u8], count: u16) -> Option<u16>
+pub(crate) fn first_bad(block: &[u8], count: u16) -> Option<u16>
     ensures { λ r. ⌜ BySome r (None-of (Bad (now (block .entry))) count) (λ k. First (Bad (now (block .entry))) count k) ⌝ }
 {
     let mut cursor = Cursor::new(block);
@@ -41,7 +41,7 @@ pub fn first_bad(block: &[u8], count: u16) -> Option<u16>
 }
 
 // The first of `count` names that is `sought`.
-pub fn find(block: &[u8], count: u16, sought: &[u8]) -> Option<u16>
+pub(crate) fn find(block: &[u8], count: u16, sought: &[u8]) -> Option<u16>
     ensures { λ r. ⌜ BySome r (None-of (λ k. name-at (now (block .entry)) k ≡ now (sought .entry)) count) (λ k. First (λ k. name-at (now (block .entry)) k ≡ now (sought .entry)) count k) ⌝ }
 {
     let mut cursor = Cursor::new(block);
@@ -54,7 +54,7 @@ pub fn find(block: &[u8], count: u16, sought: &[u8]) -> Option<u16>
 }
 
 // The first of `count` names that stands earlier too.
-pub fn first_repeated(block: &[u8], count: u16) -> Option<u16>
+pub(crate) fn first_repeated(block: &[u8], count: u16) -> Option<u16>
     ensures { λ r. ⌜ BySome r (None-of (Repeated (now (block .entry))) count) (λ k. First (Repeated (now (block .entry))) count k) ⌝ }
 {
     let mut cursor = Cursor::new(block);
@@ -67,7 +67,7 @@ pub fn first_repeated(block: &[u8], count: u16) -> Option<u16>
 }
 
 // The name `k`, from 0.
-pub fn pick(block: &[u8], k: u16) -> &[u8]
+pub(crate) fn pick(block: &[u8], k: u16) -> &[u8]
     requires { ⌜ k + 1 < 2 ^ 16 ⌝ }
     ensures { λ r. ⌜ now r ≡ name-at (now (block .entry)) k ⌝ }
 {

@@ -8,6 +8,7 @@ ghost use Rattle.glossary.specs.Format.{GoodNames};
 ghost use Rattle.glossary.specs.Meaning.{names-of, offset-of};
 ghost use Rattle.glossary.specs.Names.{name-of, label-of};
 use crate::base::Glossary;
+use crate::labels::count_in;
 use crate::labels::label_in;
 use crate::labels::name_in;
 
@@ -16,7 +17,7 @@ impl<'a> Glossary<'a> {
     pub fn count(&self) -> u16
         ensures { λ r. ⌜ r ≡ length (names-of (now (self .entry))) ⌝ }
     {
-        self.count
+        count_in(self.block, self.count)
     }
 
     // The label of a name. In a list of good names it is the only one, and `name` gives the name back.

@@ -2,13 +2,13 @@
 ghost use mathlib.Core.Path.{_≡_};
 ghost use lib.ListN.{getD, take, drop};
 
-pub fn byte_at(block: &[u8], at: usize) -> u8
+pub(crate) fn byte_at(block: &[u8], at: usize) -> u8
     ensures { λ r. ⌜ r ≡ getD (now (block .entry)) at 0 ⌝ }
 {
     if at < block.len() { block[at] } else { 0 }
 }
 
-pub fn part(block: &[u8], from: usize, size: usize) -> &[u8]
+pub(crate) fn part(block: &[u8], from: usize, size: usize) -> &[u8]
     ensures { λ r. ⌜ now r ≡ take size (drop from (now (block .entry))) ⌝ }
 {
     let first = from.min(block.len());

@@ -50,8 +50,8 @@ fn encode(heap: Global, names: &[&[u8]]) -> Result<Vec<u8>, Refusal>
 {
     let mut block = Vec::new(heap);
     block.push(names.len() as u8)?;
-    for k in 0..names.len() {
-        append(&mut block, names[k])?;
+    for i in 0..names.len() {
+        append(&mut block, names[i])?;
     }
     Ok(block)
 }

@@ -7,6 +7,6 @@ use Rattle.glossary.specs.Format.{head-of, entry-of}
 use Rattle.name_list.specs.Lists.{bytes-of}
 use Rattle.name_list.proofs.writing.encode.Given as given
 
-abbrev pub Inv-loop-k : given.InvT-loop-k
-Inv-loop-k l =
-    vec-items (l .block) ≡ head-of (length (bytes-of (l .names))) ++ joined entry-of (take (l .k) (bytes-of (l .names)))
+abbrev pub Inv-loop-i : given.InvT-loop-i
+Inv-loop-i l =
+    vec-items (l .block) ≡ head-of (length (bytes-of (l .names))) ++ joined entry-of (take (l .i) (bytes-of (l .names)))
