@@ -85,7 +85,8 @@ impl YesNo {
     pub fn is_yes(self) -> bool
         ensures { λ r. ⌜ r ≡ self .yes ⌝ }
     {
-        self.yes
+        let YesNo { yes } = self;
+        yes
     }
 }
 
@@ -94,6 +95,7 @@ impl Count {
     pub fn number(self) -> u32
         ensures { λ r. ⌜ r ≡ self .value ⌝ }
     {
-        self.value
+        let Count { value, .. } = self;
+        value
     }
 }

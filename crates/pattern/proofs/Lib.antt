@@ -1,0 +1,14 @@
+pub mod Carried
+pub mod Computed
+pub mod Fifteen
+pub mod Growth
+pub mod Hanging
+pub mod Joined
+pub mod Kept
+pub mod KeptWays
+pub mod MergedRows
+pub mod Merges
+pub mod Proved
+pub mod RowLists
+pub mod RowSums
+pub mod Trees
