@@ -20,7 +20,7 @@ use Rattle.pattern.proofs.RowSums.{upd-same, upd-other, upd-comm, sum-rows-con
 
 module _ {T : Type 0} (S : Semiring T) where
   -- [h and r] g = [h] ([r] g)
-  apart-factor : (h r : Bool) (g : T) → S .times (bracket S (h && r)) g ≡ S .times (bracket S h) (S .times (bracket S r) g)
+  pub apart-factor : (h r : Bool) (g : T) → S .times (bracket S (h && r)) g ≡ S .times (bracket S h) (S .times (bracket S r) g)
   apart-factor h r g = ap (λ x. S .times x g) (bracket-and S h r) ∙ S .times-assoc _ _ _
 
   times-right : (a b c : T) → S .times (S .plus a b) c ≡ S .plus (S .times a c) (S .times b c)
@@ -29,13 +29,13 @@ module _ {T : Type 0} (S : Semiring T) where
 -- the axis of row Z and the links of the others
 module _ {T : Type 0} (D : ℕ → ℕ) (P : Weighted T) (Z : ℕ) (apart : Apart (P .rows)) (inZ : In Z (P .rows)) where
   -- the links of the rows but Z
-  rest : (ℕ → ℕ) → Bool
+  unfoldable pub rest : (ℕ → ℕ) → Bool
   rest a = all-rows (remove Z (P .rows)) (link D P a)
 
-  left-Z : (r : ℕ) → In r (remove Z (P .rows)) → r ≢ Z
+  pub left-Z : (r : ℕ) → In r (remove Z (P .rows)) → r ≢ Z
   left-Z r i e = not-in Z (P .rows) apart (subst (λ x. In x (remove Z (P .rows))) e i)
 
-  way-rest : (a : ℕ → ℕ) → is-way D P a ≡ (holds D (P .axis Z) (a (P .up Z)) (a Z) && rest a)
+  pub way-rest : (a : ℕ → ℕ) → is-way D P a ≡ (holds D (P .axis Z) (a (P .up Z)) (a Z) && rest a)
   unfolding is-way link rest
   way-rest a = all-remove (P .rows) (link D P a) Z inZ
 
@@ -48,7 +48,7 @@ module _ {T : Type 0} (D : ℕ → ℕ) (P : Weighted T) (Z : ℕ) (apart : Apar
 
 module _ {T : Type 0} (S : Semiring T) (D : ℕ → ℕ) (n : ℕ) (some-place : 0 < n) (P : Weighted T) where
   -- an axis that is one of two
-  split-kept : (Z : ℕ) → Apart (P .rows) → In Z (P .rows) → (x y : Axis) →
+  pub split-kept : (Z : ℕ) → Apart (P .rows) → In Z (P .rows) → (x y : Axis) →
       ((p q : ℕ) → bracket S (holds D (P .axis Z) p q) ≡ S .plus (bracket S (holds D x p q)) (bracket S (holds D y p q))) →
       value S D n P ≡ S .plus (value S D n (axed P Z x)) (value S D n (axed P Z y))
   unfolding value gains axed
@@ -126,7 +126,7 @@ module _ {T : Type 0} (S : Semiring T) (D : ℕ → ℕ) (n : ℕ) (some-place :
           self : (p : ℕ) → holds D Itself (upd b Z p (P .up Z)) (upd b Z p Z) ≡ eqb (b W) p
           self p = unfold holds in ap₂ eqb (ap (upd b Z p) (under .up-Z) ∙ upd-other b Z p W (under .W-Z)) (upd-same b Z p)
 
-    axed-merged : value S D n (axed P Z Itself) ≡ value S D n (merged S P W Z)
+    pub axed-merged : value S D n (axed P Z Itself) ≡ value S D n (merged S P W Z)
     unfolding value axed gains merged
     axed-merged =
         pull S n Z (P .rows) (λ a. S .times (bracket S (is-way D (axed P Z Itself) a)) (gains S P a)) (λ _. 0) (under .within) (under .hung .apart)

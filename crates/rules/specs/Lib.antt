@@ -1,0 +1,3 @@
+pub mod Expanding
+pub mod Laws
+pub mod Rewriting
