@@ -14,9 +14,9 @@ use Rattle.pattern.specs.Laws.{Yes-is-a-way, Count-is-the-ways}
 use Rattle.pattern.specs.Questions.{label-at, pattern-of, test-gain, value-within, value-at, ways}
 use Rattle.pattern.specs.Rows.{row}
 use Rattle.pattern.specs.Tests.{passes}
-use Rattle.pattern.specs.Ways.{upd, Weighted, link, is-way, sum-rows, gains, value, weighted, held}
+use Rattle.ways.specs.Ways.{upd, Weighted, link, is-way, sum-rows, gains, value, weighted, held}
 use Rattle.pattern.specs.declared.base.Pattern.{Pattern}
-use Rattle.pattern.proofs.RowSums.{upd-carries}
+use Rattle.ways.proofs.RowSums.{upd-carries}
 
 module _ {T U : Type 0} {S : Semiring T} {R : Semiring U} {h : T → U} (c : Carries S R h) where
   carries-rows : (n : ℕ) (rs : List ℕ) (F : (ℕ → ℕ) → T) (a : ℕ → ℕ) → h (sum-rows S n rs F a) ≡ sum-rows R n rs (λ b. h (F b)) a

@@ -11,7 +11,7 @@ use Rattle.tally.specs.Semirings.{bracket, sum, total, product}
 use Rattle.tally.specs.Tallies.{naturals}
 use Rattle.pattern.specs.Example.{Way-examples, HasWays, ancestors-of-dust, parents-in-bags, all-by-star}
 use Rattle.pattern.specs.Questions.{label-at, sift, pattern-of, test-gain, value-within, value-at, ways}
-use Rattle.pattern.specs.Ways.{upd, remove, all-rows, link, is-way, sum-rows, gains, value, weighted, held}
+use Rattle.ways.specs.Ways.{upd, remove, all-rows, link, is-way, sum-rows, gains, value, weighted, held}
 use Rattle.pattern.specs.declared.base.Pattern.{Pattern}
 use Rattle.pattern.specs.declared.row.Row.{Row}
 

@@ -8,8 +8,8 @@ use native.Mathlib.Omega.{arith}
 use lib.Dec.{eqb}
 use Rattle.std.proofs.shelf.Tests.{both-ways, cases-bool, cases-eq, eq-eqb, ne-eqb, and-left}
 use Rattle.pattern.specs.Rows.{fifteen, climbs}
-use Rattle.pattern.specs.Ways.{In, all-rows}
-use Rattle.pattern.proofs.RowLists.{all-decides}
+use Rattle.ways.specs.Ways.{In, all-rows}
+use Rattle.ways.proofs.RowLists.{all-decides}
 use Rattle.pattern.proofs.Trees.{fifteen-in, in-fifteen}
 
 -- the rows below i pass

@@ -19,12 +19,12 @@ use Rattle.pattern.specs.Laws.{Prefixes-keep-the-value, More-places-lose-no-wa
 use Rattle.pattern.specs.Questions.{label-at, pattern-of, test-gain, value-within, value-at, ways}
 use Rattle.pattern.specs.Rows.{row}
 use Rattle.pattern.specs.Tests.{passes}
-use Rattle.pattern.specs.Ways.{upd, In, Weighted, all-rows, link, is-way, sum-rows, gains, value, weighted, held}
+use Rattle.ways.specs.Ways.{upd, In, Weighted, all-rows, link, is-way, sum-rows, gains, value, weighted, held}
 use Rattle.pattern.specs.declared.base.Pattern.{Pattern}
 use Rattle.pattern.specs.declared.row.Test.{Test}
 use Rattle.pattern.specs.declared.row.Test.the-variants.{Any, Star, Label, Root}
-use Rattle.pattern.proofs.RowLists.{all-cong, product-cong}
-use Rattle.pattern.proofs.RowSums.{upd-same, upd-other, upd-carries, sum-rows-cong}
+use Rattle.ways.proofs.RowLists.{all-cong, product-cong}
+use Rattle.ways.proofs.RowSums.{upd-same, upd-other, upd-carries, sum-rows-cong}
 
 -- sums of natural numbers grow with their terms and with the places
 pub sum-grows : (n m : ℕ) (f g : ℕ → ℕ) → n ≤ m → ((p : ℕ) → p < n → f p ≤ g p) → sum naturals n f ≤ sum naturals m g

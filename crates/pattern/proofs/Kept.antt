@@ -11,17 +11,17 @@ use Rattle.std.specs.declared.option.Option.the-variants.{Some, None}
 use Rattle.std.proofs.shelf.Tests.{cases-eq}
 use Rattle.record.specs.declared.axis.Axis.the-variants.{Itself}
 use Rattle.tally.specs.Semirings.{Semiring}
-use Rattle.pattern.specs.Merging.{Under, merged}
+use Rattle.ways.specs.Merging.{Under, merged}
 use Rattle.pattern.specs.Questions.{pattern-of, test-gain}
 use Rattle.pattern.specs.Rows.{row, rooted, Merged}
 use Rattle.pattern.specs.Tests.{joined}
-use Rattle.pattern.specs.Ways.{upd, Weighted, value, weighted}
+use Rattle.ways.specs.Ways.{upd, Weighted, value, weighted}
 use Rattle.pattern.specs.declared.row.Row.{Row}
 use Rattle.pattern.specs.declared.row.Test.{Test}
-use Rattle.pattern.proofs.Merges.{merge-kept, tree-under, weighted-merged, merged-nought}
+use Rattle.ways.proofs.Merges.{merge-kept, tree-under, weighted-merged, merged-nought}
 use Rattle.pattern.proofs.MergedRows.{merged-array, tests-join, tests-apart}
-use Rattle.pattern.proofs.RowLists.{times-left-comm}
-use Rattle.pattern.proofs.RowSums.{upd-same, upd-other}
+use Rattle.ways.proofs.RowLists.{times-left-comm}
+use Rattle.ways.proofs.RowSums.{upd-same, upd-other}
 use Rattle.pattern.proofs.Trees.{in-rows, tree-of}
 
 -- a factor leaves what is worth nothing so

@@ -17,7 +17,7 @@ use Rattle.tally.specs.Tallies.{naturals}
 use Rattle.pattern.specs.Questions.{label-at, pattern-of, test-gain, value-within, value-at, ways, ways-of-rest}
 use Rattle.pattern.specs.Rows.{row, rooted, Merged}
 use Rattle.pattern.specs.Tests.{joined}
-use Rattle.pattern.specs.Ways.{value, weighted, held}
+use Rattle.ways.specs.Ways.{value, weighted, held}
 use Rattle.pattern.specs.declared.base.Pattern.{Pattern}
 use Rattle.pattern.proofs.Kept.{self-merged, held-dropped}
 

@@ -7,8 +7,7 @@ pub mod Joined
 pub mod Kept
 pub mod KeptWays
 pub mod MergedRows
-pub mod Merges
+pub mod Moved
 pub mod Proved
-pub mod RowLists
-pub mod RowSums
+pub mod Spreads
 pub mod Trees

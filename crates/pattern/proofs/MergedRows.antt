@@ -13,11 +13,11 @@ use Rattle.std.specs.declared.option.Option.{Option}
 use Rattle.std.specs.declared.option.Option.the-variants.{Some, None}
 use Rattle.record.specs.declared.axis.Axis.{Axis}
 use Rattle.tally.specs.Semirings.{Semiring, bracket}
-use Rattle.pattern.specs.Ways.{upd, In, remove, Weighted, Tree}
-use Rattle.pattern.specs.Merging.{Under, merged}
-use Rattle.pattern.proofs.RowSums.{upd-same, upd-other}
+use Rattle.ways.specs.Ways.{upd, In, remove, Weighted, Tree}
+use Rattle.ways.specs.Merging.{Under, merged}
+use Rattle.ways.proofs.RowSums.{upd-same, upd-other}
 use Rattle.tally.proofs.Sums.{bracket-and, bracket-off}
-use Rattle.pattern.proofs.Merges.{tree-under, tree-merged}
+use Rattle.ways.proofs.Merges.{tree-under, tree-merged}
 use Rattle.pattern.specs.declared.row.Row.{Row}
 use Rattle.pattern.specs.declared.row.Test.{Test}
 use Rattle.pattern.specs.Tests.{joined, passes, JoinTold}
@@ -89,22 +89,26 @@ module _ (rs : List Row) (len : length rs ≤ 16) (ok : rooted rs ≡ true) (z :
       (subst (λ P. Tree P (height (λ i. row rs i .up) 16)) (sym (merged-array least none (λ a b t e p. refl) rs rs′ z (row rs z .up) m))
       (tree-merged least (pattern-of none rs) _ tree (row rs z .up) z (unfold pattern-of in tree-under (pattern-of none rs) _ tree z (in-rows none rs z low high live-z))))
 
-  -- the output is in use again
-  pub merged-live : (rs′ : List Row) → Merged rs z rs′ → (o o′ : ℕ) → live rs o ≡ true → o′ ≡ cond (eqb o z) (row rs z .up) o → live rs′ o′ ≡ true
+  pub up-live : live rs (row rs z .up) ≡ true
   unfolding live pattern-of
-  merged-live rs′ (t, e, h) o o′ a b = elim (cases-eq o z) [
-    | inl k ↦ subst (λ x. live rs′ x ≡ true) (sym (b ∙ ap (λ x. cond x (row rs z .up) o) (eq-eqb o z k))) (elim (tree-of none rs len ok .ups z (in-rows none rs z low high live-z)) [
-      | inl q ↦ or-left _ _ (eq-eqb _ _ q)
-      | inr i ↦ or-right (eqb (row rs z .up) 0) _ (stays (row rs z .up) up-apart (rows-in none rs (row rs z .up) i .2))
-    ])
-    | inr k ↦ subst (λ x. live rs′ x ≡ true) (sym (b ∙ ap (λ x. cond x (row rs z .up) o) (ne-eqb o z k))) (elim (or-cases (eqb o 0) (row rs o .used) a) [
-      | inl q ↦ or-left (eqb o 0) (row rs′ o .used) q
-      | inr q ↦ or-right (eqb o 0) _ (stays o k q)
-    ])
+  up-live = elim (tree-of none rs len ok .ups z (in-rows none rs z low high live-z)) [
+    | inl q ↦ or-left _ _ (eq-eqb _ _ q)
+    | inr i ↦ or-right (eqb (row rs z .up) 0) _ (rows-in none rs (row rs z .up) i .2)
   ]
-    where
-      stays : (i : ℕ) → i ≢ z → row rs i .used ≡ true → row rs′ i .used ≡ true
-      stays i k u = ap (λ x. x .used) (h i) ∙ ap (λ x. cond x false (row rs i .used)) (ne-eqb i z k) ∙ u
+
+-- the output is in use again
+pub into-live : (rs rs′ : List Row) (z w : ℕ) → MergedInto rs z w rs′ → w ≢ z → live rs w ≡ true → (o : ℕ) → live rs o ≡ true → live rs′ (cond (eqb o z) w o) ≡ true
+unfolding live
+into-live rs rs′ z w (t, e, h) n lw o lo = elim (cases-eq o z) [
+  | inl k ↦ subst (λ b. live rs′ (cond b w o) ≡ true) (sym (eq-eqb o z k)) (stays w n lw)
+  | inr k ↦ subst (λ b. live rs′ (cond b w o) ≡ true) (sym (ne-eqb o z k)) (stays o k lo)
+]
+  where
+    stays : (i : ℕ) → i ≢ z → live rs i ≡ true → live rs′ i ≡ true
+    stays i k u = elim (or-cases (eqb i 0) (row rs i .used) u) [
+      | inl q ↦ or-left (eqb i 0) (row rs′ i .used) q
+      | inr q ↦ or-right (eqb i 0) _ (ap (λ x. x .used) (h i) ∙ ap (λ x. cond x false (row rs i .used)) (ne-eqb i z k) ∙ q)
+    ]
 
 -- the two writes after the rows are hung anew
 abbrev pub retested : Row → Test → Row

@@ -4,8 +4,8 @@ use lib.ListN.{length}
 use Rattle.record.specs.Records.{depth-at}
 use Rattle.pattern.specs.Laws.{ValueLaws}
 use Rattle.pattern.proofs.Growth.{prefixes-keep-the-value}
-use Rattle.pattern.proofs.Merges.{merge-kept}
-use Rattle.pattern.proofs.RowSums.{pull}
+use Rattle.ways.proofs.Merges.{merge-kept}
+use Rattle.ways.proofs.RowSums.{pull}
 
 pub value-laws : {T : Type 0} (S : Semiring T) → ValueLaws S
 value-laws S = record {

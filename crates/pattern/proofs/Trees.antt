@@ -9,8 +9,8 @@ use lib.Dec.{eqb, ltb}
 use lib.ListN.{length, getD, set}
 use Rattle.std.proofs.shelf.Lists.{getD-past}
 use Rattle.std.proofs.shelf.Tests.{cases-eq, cases-lt, cases-bool, eq-eqb, ne-eqb, eqb-true, false≢true, both-ways, and-parts, and-from, or-cases, or-left, or-right, ltb-true, lt-ltb, not-true, not-from-false}
-use Rattle.pattern.specs.Ways.{In, Apart, remove, Weighted, all-rows, Tree}
-use Rattle.pattern.proofs.RowLists.{remove-here, remove-other, all-decides}
+use Rattle.ways.specs.Ways.{In, Apart, remove, Weighted, all-rows, Tree}
+use Rattle.ways.proofs.RowLists.{remove-here, remove-other, all-decides}
 use Rattle.pattern.specs.declared.row.Row.{Row}
 use Rattle.pattern.specs.declared.row.Test.{Test}
 use Rattle.pattern.specs.Rows.{top, row, fifteen, climbs, well-hung, rooted}

@@ -8,9 +8,9 @@ use Rattle.record.specs.declared.axis.Axis.the-variants.{Itself}
 use Rattle.record.specs.declared.place.Place.{Place}
 use Rattle.tally.specs.Semirings.{Semiring, Carries, sum}
 use Rattle.tally.specs.Tallies.{yes-no-ring, count-ring, is-some, counted}
-use Rattle.pattern.specs.Merging.{Under, merged}
+use Rattle.ways.specs.Merging.{Under, merged}
 use Rattle.pattern.specs.Questions.{value-at, value-within, ways}
-use Rattle.pattern.specs.Ways.{upd, In, Apart, remove, Weighted, sum-rows, value}
+use Rattle.ways.specs.Ways.{upd, In, Apart, remove, Weighted, sum-rows, value}
 use Rattle.pattern.specs.declared.base.Pattern.{Pattern}
 
 -- a row that stands where its up-row does may be merged into it

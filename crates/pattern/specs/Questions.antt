@@ -12,7 +12,7 @@ use Rattle.tally.specs.Semirings.{Semiring, bracket}
 use Rattle.tally.specs.Tallies.{naturals}
 use Rattle.pattern.specs.Rows.{row, fifteen}
 use Rattle.pattern.specs.Tests.{passes}
-use Rattle.pattern.specs.Ways.{Weighted, value, held}
+use Rattle.ways.specs.Ways.{Weighted, value, held}
 use Rattle.pattern.specs.declared.row.Row.{Row}
 use Rattle.pattern.specs.declared.row.Test.{Test}
 use Rattle.pattern.specs.declared.base.Pattern.{Pattern}

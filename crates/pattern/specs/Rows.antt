@@ -2,17 +2,21 @@
 use mathlib.Core.Bool.{Bool, true, false, cond, not, _&&_, _||_}
 use mathlib.Core.List.{List, [], _∷_}
 use mathlib.Core.Path.{_≡_}
-use Prim.Native.Nat.{ℕ, zero, suc}
-use lib.Dec.{eqb}
-use lib.ListN.{getD}
-use Rattle.std.specs.declared.option.Option.the-variants.{Some}
+use Prim.Native.Nat.{ℕ, zero, suc, _+_}
+use lib.Dec.{eqb, ltb}
+use lib.ListN.{getD, set}
+use Rattle.std.specs.declared.option.Option.the-variants.{Some, None}
+use Rattle.record.specs.declared.axis.Step.{Step}
 use Rattle.record.specs.declared.axis.Step.the-variants.{Child}
+use Rattle.record.specs.declared.axis.Reach.the-variants.{DescendantOrSelf, AncestorOrSelf}
 use Rattle.record.specs.declared.axis.Axis.the-variants.{Along, Against, Itself, Wide}
 use Rattle.record.specs.declared.axis.Axis.{Axis}
-use Rattle.pattern.specs.Ways.{all-rows}
+use Rattle.record.specs.declared.rules.Move.{Move}
+use Rattle.record.specs.declared.rules.Move.the-variants.{Up, Join, Between}
+use Rattle.ways.specs.Ways.{all-rows}
 use Rattle.pattern.specs.declared.row.Row.{Row}
 use Rattle.pattern.specs.declared.row.Test.{Test}
-use Rattle.pattern.specs.declared.row.Test.the-variants.{Any}
+use Rattle.pattern.specs.declared.row.Test.the-variants.{Any, Star}
 use Rattle.pattern.specs.Tests.{joined}
 
 -- what stands past the end
@@ -82,3 +86,53 @@ ahead r = not (r .used) || is-along (r .axis)
 -- every row in use goes along a step
 unfoldable pub all-along : List Row → Bool
 all-along rs = all-rows fifteen (λ i. ahead (row rs i))
+
+-- the row under w by the axis x
+abbrev pub hung : Row → ℕ → Axis → Row
+hung r w x = record { used = r .used; up = w; axis = x; test = r .test }
+
+-- row z is under w by the axis x
+abbrev pub rehung : List Row → ℕ → ℕ → Axis → List Row
+rehung rs z w x = set rs z (hung (row rs z) w x)
+
+-- the up-row of the up-row
+abbrev pub second : List Row → ℕ → ℕ
+second rs z = row rs (row rs z .up) .up
+
+-- a row in use below row 0 whose up-row is not row 0
+unfoldable pub deep : List Row → ℕ → Bool
+deep rs z = inner rs z && not (eqb (row rs z .up) 0)
+
+-- row z has been moved by one move of the table
+abbrev pub MovedTo : List Row → ℕ → Move → List Row → Type 0
+MovedTo rs z Up rs′ = rs′ ≡ rehung rs z (second rs z) (row rs z .axis)
+MovedTo rs z (Between a b) rs′ = rs′ ≡ rehung (rehung rs z (second rs z) (Along a)) (row rs z .up) z (Along b)
+MovedTo rs z (Join a) rs′ = MergedInto (rehung rs (row rs z .up) (second rs z) (Along a)) z (second rs z) rs′
+
+-- only a join takes the output along
+abbrev pub moved-output : List Row → ℕ → Move → ℕ → ℕ
+moved-output rs z Up o = o
+moved-output rs z (Between a b) o = o
+moved-output rs z (Join a) o = cond (eqb o z) (second rs z) o
+
+-- and only a join may find that no place passes both tests
+abbrev pub DroppedBy : List Row → ℕ → Move → Type 0
+DroppedBy rs z Up = ⊥
+DroppedBy rs z (Between a b) = ⊥
+DroppedBy rs z (Join a) = joined (row rs (second rs z) .test) (row rs z .test) ≡ None
+
+-- a new row under w by the axis x, at any place but the root
+abbrev pub fresh : ℕ → Axis → Row
+fresh w x = record { used = true; up = w; axis = x; test = Star }
+
+-- z is reached over the new rows n and m, aside by the axis x
+abbrev pub spread : List Row → ℕ → ℕ → ℕ → Axis → List Row
+spread rs z n m x = set (set (set rs n (fresh (row rs z .up) (Wide AncestorOrSelf))) m (fresh n x)) z (hung (row rs z) m (Wide DescendantOrSelf))
+
+-- the two rows from n on are below row 0 and free
+unfoldable pub free-two : List Row → ℕ → Bool
+free-two rs n = not (eqb n 0) && (ltb n 15 && (not (row rs n .used) && not (row rs (n + 1) .used)))
+
+-- and z is in use
+unfoldable pub room : List Row → ℕ → ℕ → Bool
+room rs z n = inner rs z && free-two rs n

@@ -4,9 +4,26 @@ ghost use mathlib.Core.Logic.{_≢_};
 ghost use Prim.Native.Nat.{ℕ, _≤_, _<_};
 ghost use Rattle.std.specs.Options.{Cases};
 ghost use Rattle.std.specs.declared.option.Option.the-variants.{None};
-ghost use Rattle.pattern.specs.Rows.{row, redirected, MergedInto};
+ghost use Rattle.pattern.specs.Rows.{row, rehung, redirected, MergedInto};
 ghost use Rattle.pattern.specs.Tests.{joined};
 use crate::row::Row;
+use record::Axis;
+
+// Row z under w by the axis.
+pub(crate) fn hang(rows: [Row; 16], z: u8, w: u8, axis: Axis) -> [Row; 16]
+    requires { ⌜ z < 16 ⌝ }
+    ensures { λ r. ⌜ r ≡ rehung rows z w axis ⌝ }
+{
+    let mut out = rows;
+    let old = rows[z as usize];
+    out[z as usize] = Row {
+        used: old.used,
+        up: w,
+        axis,
+        test: old.test,
+    };
+    out
+}
 
 // The rows, those under z now under w.
 fn rehang(rows: [Row; 16], z: u8, w: u8) -> [Row; 16]

@@ -21,7 +21,7 @@ use crate::base::Pattern;
 pub struct NoSuchRow;
 
 // Row w where z was meant.
-fn redirect(row: u8, z: u8, w: u8) -> u8
+pub(crate) fn redirect(row: u8, z: u8, w: u8) -> u8
     ensures { λ r. ⌜ r ≡ cond (eqb row z) w row ⌝ }
 {
     if row == z { w } else { row }

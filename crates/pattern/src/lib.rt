@@ -7,6 +7,8 @@ mod joins;
 mod laws;
 mod looking;
 mod making;
+mod moving;
+mod opening;
 mod row;
 
 pub use base::Pattern;

@@ -2,7 +2,7 @@
 ghost use mathlib.Core.Path.{_≡_};
 ghost use mathlib.Core.Bool.{true, false, _&&_};
 ghost use Rattle.std.specs.Options.{Cases};
-ghost use Rattle.pattern.specs.Rows.{row, climbs, well-hung, rooted, live};
+ghost use Rattle.pattern.specs.Rows.{row, climbs, well-hung, rooted, live, inner, free-two};
 use crate::base::Pattern;
 use crate::row::Row;
 use crate::row::Test;
@@ -68,6 +68,33 @@ fn is_live(rows: &[Row; 16], r: u8) -> bool
 }
 
 impl Pattern {
+    // Whether z is a row in use below row 0.
+    pub(crate) fn is_inner(self, z: u8) -> bool
+        ensures { λ r. ⌜ r ≡ inner (self .rows) z ⌝ }
+    {
+        z != 0 && row_at(&self.rows, z).used
+    }
+
+    // The up-row of a row.
+    pub(crate) fn up_of(self, z: u8) -> u8
+        ensures { λ r. ⌜ r ≡ row (self .rows) z .up ⌝ }
+    {
+        row_at(&self.rows, z).up
+    }
+
+    // Whether the two rows from n on are below row 0 and free.
+    pub(crate) fn are_free(self, n: u8) -> bool
+        ensures { λ r. ⌜ r ≡ free-two (self .rows) n ⌝ }
+    {
+        if n == 0 {
+            return false;
+        }
+        if n >= 15 {
+            return false;
+        }
+        !self.rows[n as usize].used & !self.rows[n as usize + 1].used
+    }
+
     // The pattern of these rows with that output. None exactly if the up-rows of some row in use do not lead to row 0, or the
     // output is neither row 0 nor in use.
     pub fn from_rows(rows: [Row; 16], output: u8) -> Option<Pattern>

@@ -1,0 +1,10 @@
+pub mod Ends
+pub mod Expansion
+pub mod Merges
+pub mod Openings
+pub mod Pairing
+pub mod Proved
+pub mod RowLists
+pub mod RowSums
+pub mod Steps
+pub mod Whole

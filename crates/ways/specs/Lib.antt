@@ -1,0 +1,5 @@
+pub mod Expanding
+pub mod Laws
+pub mod Merging
+pub mod Rewriting
+pub mod Ways
