@@ -18,14 +18,14 @@ use Rattle.pattern.specs.Tests.{joined}
 use Rattle.ways.specs.Ways.{upd, Weighted, value, weighted}
 use Rattle.pattern.specs.declared.row.Row.{Row}
 use Rattle.pattern.specs.declared.row.Test.{Test}
-use Rattle.ways.proofs.Merges.{merge-kept, tree-under, weighted-merged, merged-nought}
+use Rattle.ways.proofs.Merges.{beside, merge-kept, tree-under, weighted-merged, merged-nought}
 use Rattle.pattern.proofs.MergedRows.{merged-array, tests-join, tests-apart}
 use Rattle.ways.proofs.RowLists.{times-left-comm}
 use Rattle.ways.proofs.RowSums.{upd-same, upd-other}
 use Rattle.pattern.proofs.Trees.{in-rows, tree-of}
 
 -- a factor leaves what is worth nothing so
-weighted-apart : {T : Type 0} (S : Semiring T) (g : ℕ → ℕ → T) (o : ℕ) (v : ℕ → T) (W Z : ℕ) → W ≢ Z → (p : ℕ) → S .times (g W p) (g Z p) ≡ S .nought →
+pub weighted-apart : {T : Type 0} (S : Semiring T) (g : ℕ → ℕ → T) (o : ℕ) (v : ℕ → T) (W Z : ℕ) → W ≢ Z → (p : ℕ) → S .times (g W p) (g Z p) ≡ S .nought →
     S .times (upd g o (λ q. S .times (v q) (g o q)) W p) (upd g o (λ q. S .times (v q) (g o q)) Z p) ≡ S .nought
 weighted-apart S g o v W Z k p e =
     let new = upd g o (λ q. S .times (v q) (g o q)) in
@@ -58,7 +58,7 @@ module _ {T : Type 0} (S : Semiring T) (D : ℕ → ℕ) (n : ℕ) (some-place :
   unfolding test-gain
   self-merged a rs′ m o v =
       merge-kept S D n some-place (weighted S P o v) (row rs z .up) z (under-weighted o v) (unfold weighted pattern-of in a)
-      ∙ weighted-merged S D n some-place P (row rs z .up) z under o v
+      ∙ weighted-merged S D n some-place P (row rs z .up) z (beside P _ z under) o v
       ∙ ap (λ Q. value S D n (weighted S Q (cond (eqb o z) (row rs z .up) o) v)) (sym (merged-array S (test-gain S lab) (tests-join S lab) rs rs′ z (row rs z .up) m))
 
   -- a row by self whose test and that of its up-row join to nothing
@@ -66,7 +66,7 @@ module _ {T : Type 0} (S : Semiring T) (D : ℕ → ℕ) (n : ℕ) (some-place :
   unfolding test-gain
   self-dropped a e =
       merge-kept S D n some-place P (row rs z .up) z under (unfold pattern-of in a)
-      ∙ merged-nought S D n some-place P (row rs z .up) z under (unfold pattern-of in tests-apart S lab _ _ e)
+      ∙ merged-nought S D n some-place P (row rs z .up) z (beside P _ z under) (unfold pattern-of in tests-apart S lab _ _ e)
 
   -- the same with a factor at a row
   pub held-dropped : row rs z .axis ≡ Itself → joined (row rs (row rs z .up) .test) (row rs z .test) ≡ None → (o : ℕ) (v : ℕ → T) →
@@ -74,5 +74,5 @@ module _ {T : Type 0} (S : Semiring T) (D : ℕ → ℕ) (n : ℕ) (some-place :
   unfolding test-gain
   held-dropped a e o v =
       merge-kept S D n some-place (weighted S P o v) (row rs z .up) z (under-weighted o v) (unfold weighted pattern-of in a)
-      ∙ merged-nought S D n some-place (weighted S P o v) (row rs z .up) z (under-weighted o v)
+      ∙ merged-nought S D n some-place (weighted S P o v) (row rs z .up) z (beside (weighted S P o v) _ z (under-weighted o v))
       (unfold weighted pattern-of in λ p. weighted-apart S (λ r. test-gain S lab (row rs r .test)) o v (row rs z .up) z (under .W-Z) p (tests-apart S lab _ _ e p))

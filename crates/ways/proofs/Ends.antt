@@ -27,8 +27,8 @@ use Rattle.std.proofs.shelf.Ways.{tells}
 use Rattle.ways.proofs.RowLists.{in-sub, by-head}
 use Rattle.ways.proofs.RowSums.{upd-same, upd-other}
 use Rattle.ways.specs.Expanding.{plain}
-use Rattle.ways.specs.Rewriting.{moved, Todo, Done, Dropped, At, find-in, concat-map, turn, rewriting, NoneBack, Every}
-use Rattle.ways.proofs.Whole.{ranked, FindView, find-view, Tag, tree-kept, rank-Y, Y-Z}
+use Rattle.ways.specs.Rewriting.{moved, Todo, Done, Dropped, At, todo-of, concat-map, turn, rewriting, NoneBack, Every}
+use Rattle.ways.proofs.Whole.{ranked, FindView, todo-view, Tag, tree-kept, rank-Y, Y-Z}
 
 abbrev heavy : Axis → ℕ → ℕ
 heavy (Along s) m = 0
@@ -203,7 +203,7 @@ module _ {T : Type 0} where
   pub ended : (S : Semiring T) (K C k : ℕ) (P : Weighted T) (rank : ℕ → ℕ) → Tree P rank → Fits P rank K C → backs P * C + weight P rank < k → Every NoneBack (rewriting S k P)
   unfolding rewriting turn
   ended S K C zero P rank tree fits h = absurd (omega arith)
-  ended S K C (suc k) P rank tree fits h = go (find-in P (P .rows)) (find-view P (P .rows)) (λ Q r t f l. ended S K C k Q r t f l)
+  ended S K C (suc k) P rank tree fits h = go (todo-of P) (todo-view P) (λ Q r t f l. ended S K C k Q r t f l)
     where
       go : (o : Todo) → FindView P (P .rows) o → ((Q : Weighted T) (r : ℕ → ℕ) → Tree Q r → Fits Q r K C → backs Q * C + weight Q r < k → Every NoneBack (rewriting S k Q)) → Every NoneBack (turn S (λ Q. rewriting S k Q) P o)
       go Done v again = (λ r i s e. done-forward P rank tree (fits .no-self) v (suc (rank r)) r (omega arith) i s e, tt)

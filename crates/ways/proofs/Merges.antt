@@ -46,6 +46,27 @@ module _ {T : Type 0} (D : ℕ → ℕ) (P : Weighted T) (Z : ℕ) (apart : Apar
       ∙ ap₂ _&&_ (ap (λ y. holds D y (a (P .up Z)) (a Z)) (upd-same (P .axis) Z x))
       (all-cong (remove Z (P .rows)) _ _ (λ r i. ap (λ y. holds D y (a (P .up r)) (a r)) (upd-other (P .axis) Z x r (left-Z r i))))
 
+-- Z is a row, W another or row 0
+pub record Beside {T : Type 0} (P : Weighted T) (W Z : ℕ) : Type 0 where
+  pub apart : Apart (P .rows)
+  pub no-top : In 0 (P .rows) → ⊥
+  pub within : In Z (P .rows)
+  pub within-W : In W (0 ∷ P .rows)
+  pub W-Z : W ≢ Z
+
+pub beside : {T : Type 0} (P : Weighted T) (W Z : ℕ) → Under P W Z → Beside P W Z
+beside P W Z under = record {
+  apart = under .hung .apart;
+  no-top = under .hung .no-top;
+  within = under .within;
+  within-W = subst (λ x. In x (0 ∷ P .rows)) (under .up-Z) (under .hung .ups Z (under .within));
+  W-Z = under .W-Z;
+}
+
+left-apart : {T : Type 0} (P : Weighted T) (W Z : ℕ) → Beside P W Z → (r : ℕ) → In r (0 ∷ remove Z (P .rows)) → r ≢ Z
+left-apart P W Z u r (inl e) k = u .no-top (subst (λ x. In x (P .rows)) (sym k ∙ e) (u .within))
+left-apart P W Z u r (inr i) k = not-in Z (P .rows) (u .apart) (subst (λ x. In x (remove Z (P .rows))) k i)
+
 module _ {T : Type 0} (S : Semiring T) (D : ℕ → ℕ) (n : ℕ) (some-place : 0 < n) (P : Weighted T) where
   -- an axis that is one of two
   pub split-kept : (Z : ℕ) → Apart (P .rows) → In Z (P .rows) → (x y : Axis) →
@@ -74,13 +95,6 @@ module _ {T : Type 0} (S : Semiring T) (D : ℕ → ℕ) (n : ℕ) (some-place :
 
   -- a row by self goes into its up-row
   module _ (W Z : ℕ) (under : Under P W Z) where
-    inW : In W (0 ∷ P .rows)
-    inW = subst (λ x. In x (0 ∷ P .rows)) (under .up-Z) (under .hung .ups Z (under .within))
-
-    apart-0 : (r : ℕ) → In r (0 ∷ remove Z (P .rows)) → r ≢ Z
-    apart-0 r (inl e) k = under .hung .no-top (subst (λ x. In x (P .rows)) (sym k ∙ e) (under .within))
-    apart-0 r (inr i) k = not-in Z (P .rows) (under .hung .apart) (subst (λ x. In x (remove Z (P .rows))) k i)
-
     module _ (b : ℕ → ℕ) where
       both : ℕ → ℕ
       both = upd b Z (b W)
@@ -105,9 +119,9 @@ module _ {T : Type 0} (S : Semiring T) (D : ℕ → ℕ) (n : ℕ) (some-place :
           ap (S .times (P .gain 0 (both 0))) (product-remove S Z (P .rows) (λ r. P .gain r (both r)) (under .within))
           ∙ times-left-comm S _ _ _
           ∙ ap₂ (S .times) (ap (P .gain Z) (upd-same b Z (b W)))
-          (product-cong S (0 ∷ remove Z (P .rows)) (λ r. P .gain r (both r)) (λ r. P .gain r (b r)) (λ r i. ap (P .gain r) (upd-other b Z (b W) r (apart-0 r i))))
+          (product-cong S (0 ∷ remove Z (P .rows)) (λ r. P .gain r (both r)) (λ r. P .gain r (b r)) (λ r i. ap (P .gain r) (upd-other b Z (b W) r (left-apart P W Z (beside P W Z under) r i))))
           ∙ sym (product-grow S W (0 ∷ remove Z (P .rows)) (λ r. P .gain r (b r)) (λ r. upd (P .gain) W (λ p. S .times (P .gain W p) (P .gain Z p)) r (b r)) (P .gain Z (b W))
-          (elim inW [ inl e ↦ inl e | inr i ↦ inr (in-stays W Z (P .rows) (under .W-Z) i) ])
+          (elim (beside P W Z under .within-W) [ inl e ↦ inl e | inr i ↦ inr (in-stays W Z (P .rows) (under .W-Z) i) ])
           (λ i. under .hung .no-top (in-sub 0 Z (P .rows) i), apart-remove Z (P .rows) (under .hung .apart))
           (ap (λ g. g (b W)) (upd-same (P .gain) W _))
           (λ r k. ap (λ g. g (b r)) (upd-other (P .gain) W _ r k)))
@@ -181,7 +195,7 @@ tree-merged S P rank tree W Z under = record {
     ]
 
 -- where two gains never meet, the merged pattern is worth nothing: a dropped end
-pub merged-nought : {T : Type 0} (S : Semiring T) (D : ℕ → ℕ) (n : ℕ) (some-place : 0 < n) (P : Weighted T) (W Z : ℕ) → Under P W Z →
+pub merged-nought : {T : Type 0} (S : Semiring T) (D : ℕ → ℕ) (n : ℕ) (some-place : 0 < n) (P : Weighted T) (W Z : ℕ) → Beside P W Z →
     ((p : ℕ) → S .times (P .gain W p) (P .gain Z p) ≡ S .nought) → value S D n (merged S P W Z) ≡ S .nought
 unfolding value gains merged
 merged-nought {T} S D n some-place P W Z u h =
@@ -192,7 +206,7 @@ merged-nought {T} S D n some-place P W Z u h =
     g = upd (P .gain) W (λ p. S .times (P .gain W p) (P .gain Z p))
 
     inW-left : In W (0 ∷ remove Z (P .rows))
-    inW-left = elim (inW S D n some-place P W Z u) [ inl e ↦ inl e | inr i ↦ inr (in-stays W Z (P .rows) (u .W-Z) i) ]
+    inW-left = elim (u .within-W) [ inl e ↦ inl e | inr i ↦ inr (in-stays W Z (P .rows) (u .W-Z) i) ]
 
     nil : (a : ℕ → ℕ) → product S (0 ∷ remove Z (P .rows)) (λ r. g r (a r)) ≡ S .nought
     nil a =
@@ -249,10 +263,10 @@ module _ {T : Type 0} (S : Semiring T) where
   ]
 
   -- the output goes with the row
-  pub weighted-merged : (D : ℕ → ℕ) (n : ℕ) → 0 < n → (P : Weighted T) (W Z : ℕ) → Under P W Z → (o : ℕ) (w : ℕ → T) →
+  pub weighted-merged : (D : ℕ → ℕ) (n : ℕ) → 0 < n → (P : Weighted T) (W Z : ℕ) → Beside P W Z → (o : ℕ) (w : ℕ → T) →
       value S D n (merged S (weighted S P o w) W Z) ≡ value S D n (weighted S (merged S P W Z) (cond (eqb o Z) W o) w)
   unfolding value gains merged weighted is-way link
   weighted-merged D n some-place P W Z u o w =
       sum-rows-cong S n (remove Z (P .rows)) _ _
-      (λ a _. ap (S .times _) (product-cong S (0 ∷ remove Z (P .rows)) _ _ (λ r i. weigh-merged (P .gain) w o W Z r (a r) (apart-0 S D n some-place P W Z u r i) (u .W-Z))))
+      (λ a _. ap (S .times _) (product-cong S (0 ∷ remove Z (P .rows)) _ _ (λ r i. weigh-merged (P .gain) w o W Z r (a r) (left-apart P W Z u r i) (u .W-Z))))
       (λ _. 0) (λ _. some-place)

@@ -20,14 +20,14 @@ use Rattle.record.specs.declared.rules.Move.the-variants.{Up, Join, Between}
 use Rattle.tally.specs.Semirings.{Semiring, bracket, sum, total, product}
 use Rattle.ways.specs.Merging.{Hung, Under, axed, merged}
 use Rattle.ways.specs.Ways.{upd, In, Apart, remove, Weighted, all-rows, link, is-way, sum-rows, gains, value, Tree, weighted}
-use Rattle.std.proofs.shelf.Tests.{cases-eq, cases-lt, cases-order, eq-eqb, ne-eqb, eqb-true, eqb-false, cases-bool}
+use Rattle.std.proofs.shelf.Tests.{cases-eq, cases-lt, cases-order, eq-eqb, ne-eqb, eqb-true, eqb-false, cases-bool, false≢true, or-cases, and-parts}
 use Rattle.std.proofs.shelf.Ways.{tells}
 use Rattle.record.proofs.Pointwise.{Leads, leads-decides}
 use Rattle.tally.proofs.Sums.{sum-cong, nought-plus, nought-times}
 use Rattle.ways.proofs.Merges.{tree-hung}
 use Rattle.ways.proofs.RowLists.{in-sub, in-stays, not-in, apart-remove, all-decides}
 use Rattle.ways.proofs.RowSums.{upd-same, upd-other, sum-rows-nought}
-use Rattle.ways.specs.Rewriting.{moved, Spot, Todo, Done, Dropped, At, judge, find-in, concat-map, turn, rewriting}
+use Rattle.ways.specs.Rewriting.{moved, Spot, Todo, Done, Dropped, At, strays, stray-in, judge, find-in, todo-of, concat-map, turn, rewriting}
 use Rattle.ways.proofs.Steps.{in-upd, total-cong, step}
 
 -- the ranks after a rewriting
@@ -55,13 +55,13 @@ module _ {T : Type 0} (S : Semiring T) (P : Weighted T) (rank : ℕ → ℕ) (tr
   in-W : In W (0 ∷ P .rows)
   in-W = subst (λ x. In x (0 ∷ P .rows)) upY (tree .ups Y inY)
 
-  W-Z : W ≢ Z
+  pub W-Z : W ≢ Z
   W-Z e = let l = rank-W in let m = rank-Y in let k : rank W ≡ rank Z = ap rank e in absurd (omega arith)
 
   pub Y-Z : Y ≢ Z
   Y-Z e = let m = rank-Y in let k : rank Y ≡ rank Z = ap rank e in absurd (omega arith)
 
-  spot : (sY sZ : Step) → P .axis Y ≡ Along sY → P .axis Z ≡ Against sZ → Spot P W Y Z sY sZ
+  pub spot : (sY sZ : Step) → P .axis Y ≡ Along sY → P .axis Z ≡ Against sZ → Spot P W Y Z sY sZ
   spot sY sZ a b = record { hung = tree-hung P rank tree; in-Y = inY; in-Z = inZ; up-Y = upY; up-Z = upZ; axis-Y = a; axis-Z = b; W-Z = W-Z; Y-Z = Y-Z }
 
   stays : (x : ℕ) → x ≢ Z → In x (0 ∷ P .rows) → In x (0 ∷ remove Z (P .rows))
@@ -97,7 +97,7 @@ module _ {T : Type 0} (S : Semiring T) (P : Weighted T) (rank : ℕ → ℕ) (tr
 
 abbrev pub FindView : {T : Type 0} → Weighted T → List ℕ → Todo → Type 0
 FindView P rs Done = (r : ℕ) → In r rs → (s : Step) → P .axis r ≡ Against s → (P .up r ≢ 0) × ((t : Step) → P .axis (P .up r) ≡ Along t → ⊥)
-FindView P rs Dropped = (r : ℕ) × (s : Step) × In r rs × (P .axis r ≡ Against s) × (P .up r ≡ 0)
+FindView P rs Dropped = (r : ℕ) × In r rs × (strays (P .axis r) ≡ true) × (P .up r ≡ 0)
 FindView P rs (At Z sY sZ) = In Z rs × (P .axis Z ≡ Against sZ) × (P .axis (P .up Z) ≡ Along sY) × (P .up Z ≢ 0)
 
 unfoldable pub Tag : Axis → ℕ
@@ -112,7 +112,7 @@ view-pass P r rs Done h v = λ x i s e. elim i [ inl k ↦ view-at x s e k | inr
   where
     view-at : (x : ℕ) (s : Step) → P .axis x ≡ Against s → x ≡ r → (P .up x ≢ 0) × ((t : Step) → P .axis (P .up x) ≡ Along t → ⊥)
     view-at x s e k = subst (λ y. P .axis y ≡ Against s → (P .up y ≢ 0) × ((t : Step) → P .axis (P .up y) ≡ Along t → ⊥)) (sym k) (h s) e
-view-pass P r rs Dropped h v = (v .0, v .1, inr (v .2), v .3, v .4)
+view-pass P r rs Dropped h v = (v .0, inr (v .1), v .2, v .3)
 view-pass P r rs (At Z sY sZ) h v = (inr (v .0), v .1, v .2, v .3)
 
 differ : {s : Step} (x : Axis) → x ≡ Against s → (Tag x ≡ 1)
@@ -120,11 +120,11 @@ unfolding Tag
 differ x e = ap Tag e
 
 judge-view : {T : Type 0} (P : Weighted T) (r : ℕ) (rs : List ℕ) (rest : Todo) (a : Axis) (b : Bool) (c : Axis) → P .axis r ≡ a → eqb (P .up r) 0 ≡ b → P .axis (P .up r) ≡ c → FindView P rs rest → FindView P (r ∷ rs) (judge a b c r rest)
-unfolding judge Tag
+unfolding judge Tag strays
 judge-view P r rs rest (Along s) b c ea eb ec v = view-pass P r rs rest (λ t e. absurd (let k : _≡_ {A = ℕ} 0 1 = ap Tag (sym ea ∙ e) in omega arith)) v
 judge-view P r rs rest Itself b c ea eb ec v = view-pass P r rs rest (λ t e. absurd (let k : _≡_ {A = ℕ} 2 1 = ap Tag (sym ea ∙ e) in omega arith)) v
 judge-view P r rs rest (Wide x) b c ea eb ec v = view-pass P r rs rest (λ t e. absurd (let k : _≡_ {A = ℕ} 3 1 = ap Tag (sym ea ∙ e) in omega arith)) v
-judge-view P r rs rest (Against s) true c ea eb ec v = (r, s, inl refl, ea, eqb-true _ _ eb)
+judge-view P r rs rest (Against s) true c ea eb ec v = (r, inl refl, ap strays ea, eqb-true _ _ eb)
 judge-view P r rs rest (Against s) false (Along t) ea eb ec v = (inl refl, ea, ec, eqb-false _ _ eb)
 judge-view P r rs rest (Against s) false (Against t) ea eb ec v = view-pass P r rs rest (λ _ _. (eqb-false _ _ eb, λ u e. absurd (let k : _≡_ {A = ℕ} 1 0 = ap Tag (sym ec ∙ e) in omega arith))) v
 judge-view P r rs rest (Against s) false Itself ea eb ec v = view-pass P r rs rest (λ _ _. (eqb-false _ _ eb, λ u e. absurd (let k : _≡_ {A = ℕ} 2 0 = ap Tag (sym ec ∙ e) in omega arith))) v
@@ -134,6 +134,21 @@ pub find-view : {T : Type 0} (P : Weighted T) (rs : List ℕ) → FindView P rs 
 unfolding find-in
 find-view P [] = λ r i. absurd i
 find-view P (r ∷ rs) = judge-view P r rs (find-in P rs) _ _ _ refl refl refl (find-view P rs)
+
+stray-view : {T : Type 0} (P : Weighted T) (rs : List ℕ) → stray-in P rs ≡ true → FindView P rs Dropped
+unfolding stray-in
+stray-view P [] e = absurd (false≢true e)
+stray-view P (r ∷ rs) e = elim (or-cases _ _ e) [
+  | inl h ↦ let (a, b) = and-parts _ _ h in (r, inl refl, b, eqb-true _ _ a)
+  | inr h ↦ let v = stray-view P rs h in (v .0, inr (v .1), v .2, v .3)
+]
+
+pub todo-view : {T : Type 0} (P : Weighted T) → FindView P (P .rows) (todo-of P)
+unfolding todo-of
+todo-view P = elim (cases-bool (stray-in P (P .rows))) [
+  | inl t ↦ rw t (stray-view P (P .rows) t)
+  | inr f ↦ rw f (find-view P (P .rows))
+]
 
 module _ {T : Type 0} (S : Semiring T) where
   pub total-append : (xs ys : List T) → total S (xs ++ ys) ≡ S .plus (total S xs) (total S ys)
@@ -163,17 +178,27 @@ module _ {T : Type 0} (S : Semiring T) where
     to-root Next p l = omega (arith, l .before)
     to-root FollowingSibling p l = omega (arith, l .before)
 
-    dropped : (P : Weighted T) (rank : ℕ → ℕ) → Tree P rank → (r : ℕ) (s : Step) → In r (P .rows) → P .axis r ≡ Against s → P .up r ≡ 0 → value S D n P ≡ S .nought
-    unfolding value is-way link holds bracket
-    dropped P rank tree r s i ax u =
+    nowhere : (x : Axis) (q : ℕ) → strays x ≡ true → holds D x 0 q ≡ true → ⊥
+    unfolding strays holds
+    nowhere (Along Child) q e h = false≢true e
+    nowhere (Along Descendant) q e h = false≢true e
+    nowhere (Along Next) q e h = let l = leads-decides D root steps Next 0 q .0 h in omega (arith, root, l .low)
+    nowhere (Along FollowingSibling) q e h = let l = leads-decides D root steps FollowingSibling 0 q .0 h in omega (arith, root, l .low)
+    nowhere (Against s) q e h = to-root s q (leads-decides D root steps s q 0 .0 h)
+    nowhere Itself q e h = false≢true e
+    nowhere (Wide x) q e h = false≢true e
+
+    dropped : (P : Weighted T) (rank : ℕ → ℕ) → Tree P rank → (r : ℕ) → In r (P .rows) → strays (P .axis r) ≡ true → P .up r ≡ 0 → value S D n P ≡ S .nought
+    unfolding value is-way link bracket
+    dropped P rank tree r i ax u =
         sum-rows-root n (P .rows) _ (λ _. S .nought) (tree .no-root) none (λ _. 0) refl ∙ sum-rows-nought S n (P .rows) (λ _. 0)
       where
         not-way : (a : ℕ → ℕ) → a 0 ≡ 0 → is-way D P a ≡ true → ⊥
         not-way a z e =
             let l : link D P a r ≡ true = all-decides (P .rows) (link D P a) .0 e r i in
             let h : holds D (P .axis r) (a (P .up r)) (a r) ≡ true = l in
-            let k : leads D s (a r) 0 ≡ true = rw (ax, u, z) at h in
-            to-root s (a r) (leads-decides D root steps s (a r) 0 .0 k)
+            let k : holds D (P .axis r) 0 (a r) ≡ true = rw (u, z) at h in
+            nowhere (P .axis r) (a r) ax k
 
         none : (a : ℕ → ℕ) → a 0 ≡ 0 → S .times (bracket S (is-way D P a)) (gains S P a) ≡ S .nought
         none a z = elim (cases-bool (is-way D P a)) [
@@ -184,11 +209,11 @@ module _ {T : Type 0} (S : Semiring T) where
     pub kept : (k : ℕ) (P : Weighted T) (rank : ℕ → ℕ) → Tree P rank → total S (map (value S D n) (rewriting S k P)) ≡ value S D n P
     unfolding rewriting total turn
     kept zero P rank tree = S .plus-nought _
-    kept (suc k) P rank tree = go (find-in P (P .rows)) (find-view P (P .rows)) (λ Q r t. kept k Q r t)
+    kept (suc k) P rank tree = go (todo-of P) (todo-view P) (λ Q r t. kept k Q r t)
       where
         go : (o : Todo) → FindView P (P .rows) o → ((Q : Weighted T) (r : ℕ → ℕ) → Tree Q r → total S (map (value S D n) (rewriting S k Q)) ≡ value S D n Q) → total S (map (value S D n) (turn S (λ Q. rewriting S k Q) P o)) ≡ value S D n P
         go Done v h = S .plus-nought _
-        go Dropped v h = sym (dropped P rank tree (v .0) (v .1) (v .2) (v .3) (v .4))
+        go Dropped v h = sym (dropped P rank tree (v .0) (v .1) (v .2) (v .3))
         go (At Z sY sZ) v h =
             let Y : ℕ = P .up Z in
             let W : ℕ = P .up Y in

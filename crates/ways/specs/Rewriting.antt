@@ -1,5 +1,5 @@
 -- Rewriting: rows that go against a step are moved by the table, until none is left.
-use mathlib.Core.Bool.{Bool, true, false, cond}
+use mathlib.Core.Bool.{Bool, true, false, cond, _&&_, _||_}
 use mathlib.Core.List.{List, [], _∷_, _++_}
 use mathlib.Core.Logic.{_≢_}
 use mathlib.Core.Path.{_≡_}
@@ -7,6 +7,7 @@ use Prim.Native.Nat.{ℕ, zero, suc}
 use lib.Dec.{eqb}
 use Rattle.record.specs.Moves.{table}
 use Rattle.record.specs.declared.axis.Step.{Step}
+use Rattle.record.specs.declared.axis.Step.the-variants.{Child, Descendant, Next, FollowingSibling}
 use Rattle.record.specs.declared.axis.Axis.{Axis}
 use Rattle.record.specs.declared.axis.Axis.the-variants.{Along, Against, Itself, Wide}
 use Rattle.record.specs.declared.rules.Move.{Move}
@@ -33,11 +34,26 @@ pub record Spot {T : Type 0} (P : Weighted T) (W Y Z : ℕ) (sY sZ : Step) : Typ
   pub W-Z : W ≢ Z
   pub Y-Z : Y ≢ Z
 
--- what is to be done: nothing; the pattern is dropped, since nothing stands before or around the root; or a row is moved
+-- what is to be done: nothing; the pattern is dropped; or a row is moved
 pub data Todo : Type 0 where
   Done : Todo
   Dropped : Todo
   At : ℕ → Step → Step → Todo
+
+-- the axis leads nowhere from the root, which has nothing around it, before it or beside it
+unfoldable pub strays : Axis → Bool
+strays (Along Child) = false
+strays (Along Descendant) = false
+strays (Along Next) = true
+strays (Along FollowingSibling) = true
+strays (Against s) = true
+strays Itself = false
+strays (Wide x) = false
+
+-- some row right under row 0 goes by such an axis
+unfoldable pub stray-in : {T : Type 0} → Weighted T → List ℕ → Bool
+stray-in P [] = false
+stray-in P (r ∷ rs) = (eqb (P .up r) 0 && strays (P .axis r)) || stray-in P rs
 
 -- a row's axis, whether it hangs under row 0, its up-row's axis, the row, and what the other rows want
 unfoldable pub judge : Axis → Bool → Axis → ℕ → Todo → Todo
@@ -59,6 +75,10 @@ unfoldable pub concat-map : {A B : Type 0} → (A → List B) → List A → Lis
 concat-map f [] = []
 concat-map f (x ∷ xs) = f x ++ concat-map f xs
 
+-- a pattern that goes astray is dropped first
+unfoldable pub todo-of : {T : Type 0} → Weighted T → Todo
+todo-of P = cond (stray-in P (P .rows)) Dropped (find-in P (P .rows))
+
 -- each alternative is finished before the next
 unfoldable pub turn : {T : Type 0} → Semiring T → (Weighted T → List (Weighted T)) → Weighted T → Todo → List (Weighted T)
 turn S again P Done = P ∷ []
@@ -68,7 +88,7 @@ turn S again P (At Z sY sZ) = concat-map (λ x. again (moved S P (P .up (P .up Z
 -- what no more than k moves one after another leave
 unfoldable pub rewriting : {T : Type 0} → Semiring T → ℕ → Weighted T → List (Weighted T)
 rewriting S zero P = P ∷ []
-rewriting S (suc k) P = turn S (λ Q. rewriting S k Q) P (find-in P (P .rows))
+rewriting S (suc k) P = turn S (λ Q. rewriting S k Q) P (todo-of P)
 
 -- no row goes against a step
 abbrev pub NoneBack : {T : Type 0} → Weighted T → Type 0
