@@ -1,2 +1,4 @@
+pub mod Firsts
 pub mod Held
 pub mod Proved
+pub mod Telling

@@ -187,7 +187,7 @@ module _ {T : Type 0} where
     falls K C f (Between s t) = let w = weight-small _ _ K C (fits-kept K C f (Between s t)) in let h = mul-le-mul-right C (backs-between s t) in omega arith
 
   -- what the search leaves is forward: go up to the root
-  done-forward : (P : Weighted T) (rank : ℕ → ℕ) → Tree P rank → ((r : ℕ) → In r (P .rows) → plain (P .axis r) ≡ true) → FindView P (P .rows) Done → (m r : ℕ) → rank r < m → In r (P .rows) → (s : Step) → P .axis r ≡ Against s → ⊥
+  pub done-forward : (P : Weighted T) (rank : ℕ → ℕ) → Tree P rank → ((r : ℕ) → In r (P .rows) → plain (P .axis r) ≡ true) → FindView P (P .rows) Done → (m r : ℕ) → rank r < m → In r (P .rows) → (s : Step) → P .axis r ≡ Against s → ⊥
   done-forward P rank tree ns v zero r h i s e = omega arith
   done-forward P rank tree ns v (suc m) r h i s e = go (P .axis (P .up r)) refl (λ u l j t k. done-forward P rank tree ns v m u l j t k)
     where

@@ -120,7 +120,7 @@ unfolding Tag
 differ x e = ap Tag e
 
 judge-view : {T : Type 0} (P : Weighted T) (r : ℕ) (rs : List ℕ) (rest : Todo) (a : Axis) (b : Bool) (c : Axis) → P .axis r ≡ a → eqb (P .up r) 0 ≡ b → P .axis (P .up r) ≡ c → FindView P rs rest → FindView P (r ∷ rs) (judge a b c r rest)
-unfolding judge Tag strays
+unfolding judge Tag
 judge-view P r rs rest (Along s) b c ea eb ec v = view-pass P r rs rest (λ t e. absurd (let k : _≡_ {A = ℕ} 0 1 = ap Tag (sym ea ∙ e) in omega arith)) v
 judge-view P r rs rest Itself b c ea eb ec v = view-pass P r rs rest (λ t e. absurd (let k : _≡_ {A = ℕ} 2 1 = ap Tag (sym ea ∙ e) in omega arith)) v
 judge-view P r rs rest (Wide x) b c ea eb ec v = view-pass P r rs rest (λ t e. absurd (let k : _≡_ {A = ℕ} 3 1 = ap Tag (sym ea ∙ e) in omega arith)) v
@@ -179,7 +179,7 @@ module _ {T : Type 0} (S : Semiring T) where
     to-root FollowingSibling p l = omega (arith, l .before)
 
     nowhere : (x : Axis) (q : ℕ) → strays x ≡ true → holds D x 0 q ≡ true → ⊥
-    unfolding strays holds
+    unfolding holds
     nowhere (Along Child) q e h = false≢true e
     nowhere (Along Descendant) q e h = false≢true e
     nowhere (Along Next) q e h = let l = leads-decides D root steps Next 0 q .0 h in omega (arith, root, l .low)
@@ -188,7 +188,7 @@ module _ {T : Type 0} (S : Semiring T) where
     nowhere Itself q e h = false≢true e
     nowhere (Wide x) q e h = false≢true e
 
-    dropped : (P : Weighted T) (rank : ℕ → ℕ) → Tree P rank → (r : ℕ) → In r (P .rows) → strays (P .axis r) ≡ true → P .up r ≡ 0 → value S D n P ≡ S .nought
+    pub dropped : (P : Weighted T) (rank : ℕ → ℕ) → Tree P rank → (r : ℕ) → In r (P .rows) → strays (P .axis r) ≡ true → P .up r ≡ 0 → value S D n P ≡ S .nought
     unfolding value is-way link bracket
     dropped P rank tree r i ax u =
         sum-rows-root n (P .rows) _ (λ _. S .nought) (tree .no-root) none (λ _. 0) refl ∙ sum-rows-nought S n (P .rows) (λ _. 0)

@@ -41,7 +41,7 @@ pub data Todo : Type 0 where
   At : ℕ → Step → Step → Todo
 
 -- the axis leads nowhere from the root, which has nothing around it, before it or beside it
-unfoldable pub strays : Axis → Bool
+abbrev pub strays : Axis → Bool
 strays (Along Child) = false
 strays (Along Descendant) = false
 strays (Along Next) = true
