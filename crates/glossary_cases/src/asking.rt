@@ -14,7 +14,7 @@ fn same_refusal(refusal: Refusal, number: u8, position: usize) -> Result<(), Fai
 }
 
 // The block is refused with that number at that position.
-pub fn refused(block: &[u8], number: u8, position: usize) -> Result<(), Fail> {
+pub(crate) fn refused(block: &[u8], number: u8, position: usize) -> Result<(), Fail> {
     let outcome = match Glossary::new(block) {
         Ok(_) => Err(Fail::new("the block is accepted")),
         Err(refusal) => same_refusal(refusal, number, position),
@@ -23,7 +23,7 @@ pub fn refused(block: &[u8], number: u8, position: usize) -> Result<(), Fail> {
 }
 
 // The list is refused with that number at that position.
-pub fn list_refused(
+pub(crate) fn list_refused(
     heap: Global,
     names: &[&[u8]],
     number: u8,
@@ -37,13 +37,13 @@ pub fn list_refused(
 }
 
 // The label and the name belong together.
-pub fn paired(glossary: &Glossary<'_>, label: u16, name: &[u8]) -> Result<(), Fail> {
+pub(crate) fn paired(glossary: &Glossary<'_>, label: u16, name: &[u8]) -> Result<(), Fail> {
     check_eq(glossary.label(name), Some(label))?;
     check_eq(glossary.name(label), Some(name))
 }
 
 // The names are the first 200 that are numbered, in their order.
-pub fn holds_full_list(glossary: &Glossary<'_>) -> Result<(), Fail> {
+pub(crate) fn holds_full_list(glossary: &Glossary<'_>) -> Result<(), Fail> {
     check_eq(glossary.count(), 200)?;
     for label in 1..201 {
         paired(glossary, label, &numbered(label - 1)).note(label)?;
@@ -54,6 +54,6 @@ pub fn holds_full_list(glossary: &Glossary<'_>) -> Result<(), Fail> {
 }
 
 // The first bytes of a block.
-pub fn front(block: &[u8], size: usize) -> Result<&[u8], Fail> {
+pub(crate) fn front(block: &[u8], size: usize) -> Result<&[u8], Fail> {
     Ok(block.get(0..size).ok_or("the block is too short")?)
 }

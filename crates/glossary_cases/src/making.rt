@@ -8,12 +8,12 @@ fn digit(number: u16) -> u8 {
 }
 
 // A good name for each number below 1000: `n` and three digits.
-pub fn numbered(number: u16) -> [u8; 4] {
+pub(crate) fn numbered(number: u16) -> [u8; 4] {
     [b'n', digit(number / 100), digit(number / 10), digit(number)]
 }
 
 // The names of the numbers below `count`, in their order.
-pub fn numbered_list(heap: Global, count: u16) -> Result<Vec<[u8; 4]>, Fail> {
+pub(crate) fn numbered_list(heap: Global, count: u16) -> Result<Vec<[u8; 4]>, Fail> {
     let mut names = Vec::new(heap);
     for number in 0..count {
         names.push(numbered(number))?;
@@ -22,7 +22,7 @@ pub fn numbered_list(heap: Global, count: u16) -> Result<Vec<[u8; 4]>, Fail> {
 }
 
 // The names as a list of slices.
-pub fn slices(heap: Global, names: &[[u8; 4]]) -> Result<Vec<&[u8]>, Fail> {
+pub(crate) fn slices(heap: Global, names: &[[u8; 4]]) -> Result<Vec<&[u8]>, Fail> {
     let mut list = Vec::new(heap);
     for name in names {
         list.push(name.as_slice())?;
@@ -31,14 +31,14 @@ pub fn slices(heap: Global, names: &[[u8; 4]]) -> Result<Vec<&[u8]>, Fail> {
 }
 
 // Adds a name behind a byte with its length.
-pub fn append(block: &mut Vec<u8>, name: &[u8]) -> Result<(), Fail> {
+pub(crate) fn append(block: &mut Vec<u8>, name: &[u8]) -> Result<(), Fail> {
     block.push(u8::try_from(name.len())?)?;
     block.extend_from_slice(name)?;
     Ok(())
 }
 
 // The block of a list of names, good or bad.
-pub fn block_of(heap: Global, names: &[[u8; 4]]) -> Result<Vec<u8>, Fail> {
+pub(crate) fn block_of(heap: Global, names: &[[u8; 4]]) -> Result<Vec<u8>, Fail> {
     let mut block = Vec::new(heap);
     block.push(u8::try_from(names.len())?)?;
     for name in names {
@@ -48,7 +48,7 @@ pub fn block_of(heap: Global, names: &[[u8; 4]]) -> Result<Vec<u8>, Fail> {
 }
 
 // The block of one name, good or bad.
-pub fn block_of_one(heap: Global, name: &[u8]) -> Result<Vec<u8>, Fail> {
+pub(crate) fn block_of_one(heap: Global, name: &[u8]) -> Result<Vec<u8>, Fail> {
     let mut block = Vec::new(heap);
     block.push(1)?;
     append(&mut block, name)?;

@@ -1,13 +1,13 @@
 -- The value of a pattern in an array of rows, with a factor v at the output, when a row by self is merged.
-use mathlib.Core.Bool.{Bool, true, false, cond}
+use mathlib.Core.Bool.{true, cond}
 use mathlib.Core.List.{List}
 use mathlib.Core.Logic.{inl, inr, _≢_}
-use mathlib.Core.Path.{_≡_, refl, sym, ap, ap₂, subst, _∙_}
+use mathlib.Core.Path.{_≡_, sym, ap, ap₂, subst, _∙_}
 use Prim.Native.Nat.{ℕ, _≤_, _<_}
 use native.Mathlib.Omega.{arith}
 use lib.Dec.{eqb}
 use lib.ListN.{length}
-use Rattle.std.specs.declared.option.Option.the-variants.{Some, None}
+use Rattle.std.specs.declared.option.Option.the-variants.{None}
 use Rattle.std.proofs.shelf.Tests.{cases-eq}
 use Rattle.record.specs.declared.axis.Axis.the-variants.{Itself}
 use Rattle.tally.specs.Semirings.{Semiring}
@@ -17,7 +17,6 @@ use Rattle.pattern.specs.Rows.{row, rooted, Merged}
 use Rattle.pattern.specs.Tests.{joined}
 use Rattle.ways.specs.Ways.{upd, Weighted, value, weighted}
 use Rattle.pattern.specs.declared.row.Row.{Row}
-use Rattle.pattern.specs.declared.row.Test.{Test}
 use Rattle.ways.proofs.Merges.{beside, merge-kept, tree-under, weighted-merged, merged-nought}
 use Rattle.pattern.proofs.MergedRows.{merged-array, tests-join, tests-apart}
 use Rattle.ways.proofs.RowLists.{times-left-comm}
@@ -48,31 +47,25 @@ module _ {T : Type 0} (S : Semiring T) (D : ℕ → ℕ) (n : ℕ) (some-place :
   unfolding pattern-of
   under = tree-under P _ (tree-of (test-gain S lab) rs (omega arith) ok) z (in-rows (test-gain S lab) rs z low high live)
 
-  under-weighted : (o : ℕ) (v : ℕ → T) → Under (weighted S P o v) (row rs z .up) z
+  pub under-weighted : (o : ℕ) (v : ℕ → T) → Under (weighted S P o v) (row rs z .up) z
   unfolding weighted
   under-weighted o v = record { hung = record { apart = under .hung .apart; no-top = under .hung .no-top; ups = under .hung .ups }; within = under .within; up-Z = under .up-Z; W-Z = under .W-Z }
 
-  -- a row by self, merged
-  pub self-merged : row rs z .axis ≡ Itself → (rs′ : List Row) → Merged rs z rs′ → (o : ℕ) (v : ℕ → T) →
-      value S D n (weighted S P o v) ≡ value S D n (weighted S (pattern-of (test-gain S lab) rs′) (cond (eqb o z) (row rs z .up) o) v)
+  -- merging in the array is merging of the pattern, and the factor goes with the row
+  pub merged-kept : (rs′ : List Row) → Merged rs z rs′ → (o : ℕ) (v : ℕ → T) →
+      value S D n (merged S (weighted S P o v) (row rs z .up) z) ≡ value S D n (weighted S (pattern-of (test-gain S lab) rs′) (cond (eqb o z) (row rs z .up) o) v)
   unfolding test-gain
-  self-merged a rs′ m o v =
-      merge-kept S D n some-place (weighted S P o v) (row rs z .up) z (under-weighted o v) (unfold weighted pattern-of in a)
-      ∙ weighted-merged S D n some-place P (row rs z .up) z (beside P _ z under) o v
+  merged-kept rs′ m o v =
+      weighted-merged S D n some-place P (row rs z .up) z (beside P _ z under) o v
       ∙ ap (λ Q. value S D n (weighted S Q (cond (eqb o z) (row rs z .up) o) v)) (sym (merged-array S (test-gain S lab) (tests-join S lab) rs rs′ z (row rs z .up) m))
 
-  -- a row by self whose test and that of its up-row join to nothing
-  pub self-dropped : row rs z .axis ≡ Itself → joined (row rs (row rs z .up) .test) (row rs z .test) ≡ None → value S D n P ≡ S .nought
+  -- where the two tests join to nothing it is worth nothing
+  pub merged-dropped : joined (row rs (row rs z .up) .test) (row rs z .test) ≡ None → (o : ℕ) (v : ℕ → T) → value S D n (merged S (weighted S P o v) (row rs z .up) z) ≡ S .nought
   unfolding test-gain
-  self-dropped a e =
-      merge-kept S D n some-place P (row rs z .up) z under (unfold pattern-of in a)
-      ∙ merged-nought S D n some-place P (row rs z .up) z (beside P _ z under) (unfold pattern-of in tests-apart S lab _ _ e)
-
-  -- the same with a factor at a row
-  pub held-dropped : row rs z .axis ≡ Itself → joined (row rs (row rs z .up) .test) (row rs z .test) ≡ None → (o : ℕ) (v : ℕ → T) →
-      value S D n (weighted S P o v) ≡ S .nought
-  unfolding test-gain
-  held-dropped a e o v =
-      merge-kept S D n some-place (weighted S P o v) (row rs z .up) z (under-weighted o v) (unfold weighted pattern-of in a)
-      ∙ merged-nought S D n some-place (weighted S P o v) (row rs z .up) z (beside (weighted S P o v) _ z (under-weighted o v))
+  merged-dropped e o v =
+      merged-nought S D n some-place (weighted S P o v) (row rs z .up) z (beside (weighted S P o v) _ z (under-weighted o v))
       (unfold weighted pattern-of in λ p. weighted-apart S (λ r. test-gain S lab (row rs r .test)) o v (row rs z .up) z (under .W-Z) p (tests-apart S lab _ _ e p))
+
+  -- a row by self may be merged
+  pub self-kept : row rs z .axis ≡ Itself → (o : ℕ) (v : ℕ → T) → value S D n (weighted S P o v) ≡ value S D n (merged S (weighted S P o v) (row rs z .up) z)
+  self-kept a o v = merge-kept S D n some-place (weighted S P o v) (row rs z .up) z (under-weighted o v) (unfold weighted pattern-of in a)

@@ -1,37 +1,33 @@
 -- The changes of a pattern with a factor at its output.
-use mathlib.Core.Bool.{true, false, cond}
-use mathlib.Core.List.{List, [], _∷_, map}
+use mathlib.Core.Bool.{true, false}
+use mathlib.Core.List.{List, map}
 use mathlib.Core.Logic.{inl, inr, _≢_}
-use mathlib.Core.Path.{_≡_, refl, sym, ap, ap₂, subst, _∙_}
+use mathlib.Core.Path.{_≡_, refl, sym, ap, _∙_}
 use Prim.Native.Nat.{ℕ, suc, _≤_, _<_}
 use native.Mathlib.Omega.{arith}
-use lib.Dec.{eqb}
 use lib.ListN.{length}
-use Rattle.std.proofs.shelf.Tests.{cases-eq, both-ways}
-use Rattle.std.specs.declared.option.Option.the-variants.{None}
 use Rattle.record.specs.Moves.{table}
 use Rattle.record.specs.declared.axis.Step.{Step}
 use Rattle.record.specs.declared.axis.Step.the-variants.{Descendant, FollowingSibling}
 use Rattle.record.specs.declared.axis.Reach.the-variants.{DescendantOrSelf, AncestorOrSelf, Following, Preceding}
 use Rattle.record.specs.declared.axis.Axis.{Axis}
-use Rattle.record.specs.declared.axis.Axis.the-variants.{Along, Against, Itself, Wide}
+use Rattle.record.specs.declared.axis.Axis.the-variants.{Along, Against, Wide}
 use Rattle.record.specs.declared.rules.Move.{Move}
 use Rattle.record.specs.declared.rules.Move.the-variants.{Up, Join, Between}
 use Rattle.tally.specs.Semirings.{Semiring, total}
 use Rattle.ways.specs.Expanding.{Grown, star, opened}
 use Rattle.ways.specs.Merging.{Under, axed, merged}
 use Rattle.ways.specs.Rewriting.{Spot, moved}
-use Rattle.ways.specs.Ways.{upd, In, Weighted, value, weighted, Tree}
-use Rattle.ways.proofs.Merges.{Beside, beside, weighted-merged, merged-nought, tree-under}
+use Rattle.ways.specs.Ways.{In, Weighted, value, weighted, Tree}
+use Rattle.ways.proofs.Merges.{Beside, weighted-merged, merged-nought}
 use Rattle.ways.proofs.Steps.{step}
 use Rattle.ways.proofs.Openings.{below-kept, above-kept, following-kept, preceding-kept, weighted-opened}
 use Rattle.pattern.specs.Questions.{pattern-of, test-gain}
-use Rattle.pattern.specs.Rows.{row, rooted, second, rehung, spread, Merged, MovedTo, moved-output, DroppedBy}
-use Rattle.pattern.specs.Tests.{joined}
+use Rattle.pattern.specs.Rows.{row, rooted, second, rehung, spread, MovedTo, moved-output, DroppedBy}
 use Rattle.pattern.specs.declared.row.Row.{Row}
 use Rattle.pattern.specs.declared.row.Test.the-variants.{Star}
-use Rattle.pattern.proofs.Kept.{weighted-apart}
-use Rattle.pattern.proofs.MergedRows.{up-apart, merged-array, tests-join, tests-apart}
+use Rattle.pattern.proofs.Kept.{weighted-apart, under-weighted}
+use Rattle.pattern.proofs.MergedRows.{up-apart, tests-join, tests-apart}
 use Rattle.pattern.proofs.Moved.{moved-array, axed-array, w-z}
 use Rattle.pattern.proofs.Spreads.{spread-array, spread-grown}
 use Rattle.pattern.proofs.Trees.{in-rows, height, tree-of}
@@ -112,24 +108,8 @@ module _ {T : Type 0} (S : Semiring T) (D : ℕ → ℕ) (root : D 0 ≡ 0) (ste
   abbrev u : ℕ
   u = row rs z .up
 
-  under : Under R u z
-  unfolding pattern-of
-  under = tree-under R _ (tree-of (test-gain S lab) rs (omega arith) ok) z (in-rows (test-gain S lab) rs z low high used)
-
-  under-weighted : Under (weighted S R o v) u z
-  unfolding weighted
-  under-weighted = record { hung = record { apart = under .hung .apart; no-top = under .hung .no-top; ups = under .hung .ups }; within = under .within; up-Z = under .up-Z; W-Z = under .W-Z }
-
-  pub merged-kept : (rs′ : List Row) → Merged rs z rs′ → value S D n (merged S (weighted S R o v) u z) ≡ value S D n (weighted S (pattern-of (test-gain S lab) rs′) (cond (eqb o z) u o) v)
-  unfolding test-gain
-  merged-kept rs′ m =
-      weighted-merged S D n some-place R u z (beside R u z under) o v
-      ∙ ap (λ Q. value S D n (weighted S Q (cond (eqb o z) u o) v)) (sym (merged-array S (test-gain S lab) (tests-join S lab) rs rs′ z u m))
-
-  pub merged-dropped : joined (row rs u .test) (row rs z .test) ≡ None → value S D n (merged S (weighted S R o v) u z) ≡ S .nought
-  merged-dropped e =
-      merged-nought S D n some-place (weighted S R o v) u z (beside (weighted S R o v) u z under-weighted)
-      (unfold weighted pattern-of test-gain in λ p. weighted-apart S (λ r. test-gain S lab (row rs r .test)) o v u z (under .W-Z) p (tests-apart S lab _ _ e p))
+  abbrev weighed : Under (weighted S R o v) u z
+  weighed = under-weighted S D n some-place lab rs len ok z low high used o v
 
   axed-kept : (x : Axis) → value S D n (axed (weighted S R o v) z x) ≡ value S D n (weighted S (pattern-of (test-gain S lab) (rehung rs z u x)) o v)
   unfolding axed weighted
@@ -138,13 +118,13 @@ module _ {T : Type 0} (S : Semiring T) (D : ℕ → ℕ) (root : D 0 ≡ 0) (ste
   pub below-split : row rs z .axis ≡ Wide DescendantOrSelf →
       value S D n (weighted S R o v) ≡ S .plus (value S D n (weighted S (pattern-of (test-gain S lab) (rehung rs z u (Along Descendant))) o v)) (value S D n (merged S (weighted S R o v) u z))
   below-split e =
-      below-kept S D root steps n some-place others (weighted S R o v) u z under-weighted (unfold weighted pattern-of in e)
+      below-kept S D root steps n some-place others (weighted S R o v) u z weighed (unfold weighted pattern-of in e)
       ∙ ap (λ x. S .plus x (value S D n (merged S (weighted S R o v) u z))) (axed-kept (Along Descendant))
 
   pub above-split : row rs z .axis ≡ Wide AncestorOrSelf →
       value S D n (weighted S R o v) ≡ S .plus (value S D n (weighted S (pattern-of (test-gain S lab) (rehung rs z u (Against Descendant))) o v)) (value S D n (merged S (weighted S R o v) u z))
   above-split e =
-      above-kept S D root steps n some-place others (weighted S R o v) u z under-weighted (unfold weighted pattern-of in e)
+      above-kept S D root steps n some-place others (weighted S R o v) u z weighed (unfold weighted pattern-of in e)
       ∙ ap (λ x. S .plus x (value S D n (merged S (weighted S R o v) u z))) (axed-kept (Against Descendant))
 
   -- two new rows, N and M
@@ -166,10 +146,10 @@ module _ {T : Type 0} (S : Semiring T) (D : ℕ → ℕ) (root : D 0 ≡ 0) (ste
 
     pub following-opened : row rs z .axis ≡ Wide Following → value S D n (weighted S R o v) ≡ value S D n (weighted S (pattern-of (test-gain S lab) (spread rs z N M (Along FollowingSibling))) o v)
     following-opened e =
-        following-kept S D root steps n some-place others (weighted S R o v) u z N M (L (Along FollowingSibling)) under-weighted (unfold weighted in grown (Along FollowingSibling)) (unfold weighted pattern-of in e)
+        following-kept S D root steps n some-place others (weighted S R o v) u z N M (L (Along FollowingSibling)) weighed (unfold weighted in grown (Along FollowingSibling)) (unfold weighted pattern-of in e)
         ∙ opened-kept (Along FollowingSibling)
 
     pub preceding-opened : row rs z .axis ≡ Wide Preceding → value S D n (weighted S R o v) ≡ value S D n (weighted S (pattern-of (test-gain S lab) (spread rs z N M (Against FollowingSibling))) o v)
     preceding-opened e =
-        preceding-kept S D root steps n some-place others (weighted S R o v) u z N M (L (Against FollowingSibling)) under-weighted (unfold weighted in grown (Against FollowingSibling)) (unfold weighted pattern-of in e)
+        preceding-kept S D root steps n some-place others (weighted S R o v) u z N M (L (Against FollowingSibling)) weighed (unfold weighted in grown (Against FollowingSibling)) (unfold weighted pattern-of in e)
         ∙ opened-kept (Against FollowingSibling)

@@ -2,7 +2,7 @@
 use mathlib.Core.Bool.{true, false}
 use mathlib.Core.List.{List, [], _∷_, map}
 use mathlib.Core.Logic.{inl, inr, _≢_}
-use mathlib.Core.Path.{_≡_, refl, sym, ap, ap₂, subst, _∙_}
+use mathlib.Core.Path.{_≡_, refl, sym, ap₂, subst, _∙_}
 use Prim.Native.Nat.{ℕ, _+_, _≤_, _<_}
 use native.Mathlib.Omega.{arith}
 use lib.Dec.{eqb}
@@ -18,14 +18,15 @@ use Rattle.record.proofs.Proved.{root-depth, all-steps, all-nested}
 use Rattle.tally.specs.Semirings.{Semiring, bracket, total}
 use Rattle.ways.specs.Rewriting.{moved}
 use Rattle.ways.specs.Merging.{merged}
-use Rattle.ways.specs.Ways.{Weighted, value, weighted, held}
+use Rattle.ways.specs.Ways.{value, weighted, held}
 use Rattle.pattern.specs.Questions.{label-at, pattern-of, test-gain, value-within, value-at}
 use Rattle.pattern.specs.Rows.{row, second, live}
 use Rattle.pattern.specs.declared.base.Pattern.{Pattern}
 use Rattle.pattern.specs.declared.row.Row.{Row}
+use Rattle.pattern.proofs.Kept.{merged-kept, merged-dropped}
 use Rattle.pattern.proofs.Moved.{inner-parts, deep-parts, room-parts}
-use Rattle.rewrite.specs.Laws.{value-of-rest, MoveOf, MovesOf, MergeOf, Moves-keep-every-way, ChangeLaws}
-use Rattle.rewrite.proofs.Held.{moved-kept, moved-dropped, moves-kept, merged-kept, merged-dropped, below-split, above-split, following-opened, preceding-opened}
+use Rattle.rewrite.specs.Laws.{value-of-rest, MoveOf, MovesOf, MergeOf, ChangeLaws}
+use Rattle.rewrite.proofs.Held.{moved-kept, moved-dropped, moves-kept, below-split, above-split, following-opened, preceding-opened}
 
 -- a row that is in use is not one that is free
 apart-live : (rs : List Row) (o k : ℕ) → live rs o ≡ true → 1 ≤ k → row rs k .used ≡ false → o ≢ k
@@ -73,9 +74,9 @@ module _ {T : Type 0} (S : Semiring T) (places : List Place) (rec : Record place
     pub merged-rest : (r : Option Pattern) → MergeOf P z r →
         value S (depth-at places) (length places) (merged S (weighted S (pattern-of (test-gain S (label-at places)) (P .rows)) (P .output) v) (row (P .rows) z .up) z) ≡ value-of-rest S places r p
     unfolding value-of-rest
-    merged-rest None d = merged-dropped S (depth-at places) (root-depth places rec) (all-steps places rec) (length places) (rec .some-place) (all-nested places rec) (label-at places) (P .rows) len (P .ok) z low high used (P .output) v d
+    merged-rest None d = merged-dropped S (depth-at places) (length places) (rec .some-place) (label-at places) (P .rows) len (P .ok) z low high used d (P .output) v
     merged-rest (Some Q) h =
-        merged-kept S (depth-at places) (root-depth places rec) (all-steps places rec) (length places) (rec .some-place) (all-nested places rec) (label-at places) (P .rows) len (P .ok) z low high used (P .output) v (Q .rows) (h .0)
+        merged-kept S (depth-at places) (length places) (rec .some-place) (label-at places) (P .rows) len (P .ok) z low high used (Q .rows) (h .0) (P .output) v
         ∙ same-worth Q (Q .rows) _ refl (h .1)
 
 pub change-laws : {T : Type 0} (S : Semiring T) → ChangeLaws S

@@ -1,21 +1,20 @@
 -- What the turn that is found says of its pattern.
-use mathlib.Core.Bool.{Bool, true, false, cond, not, _&&_, _||_}
+use mathlib.Core.Bool.{true, false, cond, not, _&&_}
 use mathlib.Core.List.{List, [], _∷_}
-use mathlib.Core.Logic.{_⊎_, inl, inr, _≢_}
+use mathlib.Core.Logic.{inl, inr, _≢_}
 use mathlib.Core.Path.{_≡_, refl, sym, ap, subst, _∙_}
-use Prim.Native.Nat.{ℕ, zero, suc, _≤_, _<_}
+use Prim.Native.Nat.{ℕ, suc, _≤_, _<_}
 use native.Mathlib.Omega.{arith}
 use lib.Dec.{eqb}
 use lib.ListN.{length}
-use Rattle.std.proofs.shelf.Tests.{cases-bool, cases-eq, eq-eqb, ne-eqb, eqb-true, and-parts, and-from, or-left, or-right, not-from-false, false≢true}
+use Rattle.std.proofs.shelf.Tests.{cases-bool, eq-eqb, ne-eqb, eqb-true, and-parts, and-from, or-left, or-right, not-from-false, false≢true}
 use Rattle.std.specs.declared.option.Option.{Option}
 use Rattle.std.specs.declared.option.Option.the-variants.{Some, None}
-use Rattle.record.specs.Records.{Record, depth-at}
+use Rattle.record.specs.Records.{depth-at}
 use Rattle.record.specs.declared.axis.Step.{Step}
 use Rattle.record.specs.declared.axis.Reach.the-variants.{DescendantOrSelf, AncestorOrSelf, Following, Preceding}
 use Rattle.record.specs.declared.axis.Axis.{Axis}
 use Rattle.record.specs.declared.axis.Axis.the-variants.{Along, Against, Itself, Wide}
-use Rattle.record.specs.declared.place.Place.{Place}
 use Rattle.record.proofs.Proved.{root-depth, all-steps}
 use Rattle.tally.specs.Semirings.{bracket}
 use Rattle.tally.specs.Tallies.{naturals}

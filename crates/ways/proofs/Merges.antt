@@ -225,7 +225,7 @@ module _ {T : Type 0} (S : Semiring T) where
   at-same : (g : ℕ → ℕ → T) (r : ℕ) (v : ℕ → T) (q : ℕ) → upd g r v r q ≡ v q
   at-same g r v q = ap (λ f. f q) (upd-same g r v)
 
-  at-other : (g : ℕ → ℕ → T) (r : ℕ) (v : ℕ → T) (s q : ℕ) → s ≢ r → upd g r v s q ≡ g s q
+  pub at-other : (g : ℕ → ℕ → T) (r : ℕ) (v : ℕ → T) (s q : ℕ) → s ≢ r → upd g r v s q ≡ g s q
   at-other g r v s q k = ap (λ f. f q) (upd-other g r v s k)
 
   -- the factor goes from Z to W with the row

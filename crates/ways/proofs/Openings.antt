@@ -26,7 +26,7 @@ use Rattle.record.proofs.Intervals.{DescR, FollR, descendant-decides, following
 use Rattle.record.proofs.Pairs.{or-self-decides}
 use Rattle.record.proofs.Pointwise.{exact2}
 use Rattle.tally.proofs.Sums.{one-times, nought-plus, nought-times, sum-cong, sum-swap, sum-times, bracket-and, bracket-on, bracket-off}
-use Rattle.ways.proofs.Merges.{apart-factor, rest, left-Z, way-rest, split-kept, axed-merged}
+use Rattle.ways.proofs.Merges.{at-other, apart-factor, rest, left-Z, way-rest, split-kept, axed-merged}
 use Rattle.ways.proofs.RowLists.{remove-other, in-sub, in-stays, not-in, apart-remove, all-cong, all-remove, product-cong, product-remove, times-left-comm}
 use Rattle.ways.proofs.RowSums.{upd-same, upd-other, upd-comm, sum-rows-cong, pull}
 use Rattle.ways.specs.Expanding.{Grown, star, opened}
@@ -357,10 +357,7 @@ tree-opened {T} S P rank tree W Z N M side L under grown = (rank-wide rank W N M
 pub weighted-opened : {T : Type 0} (S : Semiring T) (P : Weighted T) (W Z N M : ℕ) (side : Axis) (L : List ℕ) (o : ℕ) (w : ℕ → T) → o ≢ N → o ≢ M →
     opened S (weighted S P o w) W Z N M side L ≡ weighted S (opened S P W Z N M side L) o w
 unfolding opened weighted
-weighted-opened {T} S P W Z N M side L o w on om =
+weighted-opened S P W Z N M side L o w on om =
     ap (λ g. record { rows = L; up = upd (upd (upd (P .up) N W) M N) Z M; axis = upd (upd (upd (P .axis) N (Wide AncestorOrSelf)) M side) Z (Wide DescendantOrSelf); gain = g })
     (ap (λ g. upd g M (star S)) (upd-comm (P .gain) o N _ (star S) on) ∙ upd-comm (upd (P .gain) N (star S)) o M _ (star S) om
-    ∙ ap (λ v. upd (upd (upd (P .gain) N (star S)) M (star S)) o v) (fun-ext (λ q. ap (S .times (w q)) (sym (at-other (upd (P .gain) N (star S)) M (star S) o q om ∙ at-other (P .gain) N (star S) o q on)))))
-  where
-    at-other : (g : ℕ → ℕ → T) (r : ℕ) (v : ℕ → T) (s q : ℕ) → s ≢ r → upd g r v s q ≡ g s q
-    at-other g r v s q k = ap (λ f. f q) (upd-other g r v s k)
+    ∙ ap (λ v. upd (upd (upd (P .gain) N (star S)) M (star S)) o v) (fun-ext (λ q. ap (S .times (w q)) (sym (at-other S (upd (P .gain) N (star S)) M (star S) o q om ∙ at-other S (P .gain) N (star S) o q on)))))

@@ -115,10 +115,6 @@ view-pass P r rs Done h v = λ x i s e. elim i [ inl k ↦ view-at x s e k | inr
 view-pass P r rs Dropped h v = (v .0, inr (v .1), v .2, v .3)
 view-pass P r rs (At Z sY sZ) h v = (inr (v .0), v .1, v .2, v .3)
 
-differ : {s : Step} (x : Axis) → x ≡ Against s → (Tag x ≡ 1)
-unfolding Tag
-differ x e = ap Tag e
-
 judge-view : {T : Type 0} (P : Weighted T) (r : ℕ) (rs : List ℕ) (rest : Todo) (a : Axis) (b : Bool) (c : Axis) → P .axis r ≡ a → eqb (P .up r) 0 ≡ b → P .axis (P .up r) ≡ c → FindView P rs rest → FindView P (r ∷ rs) (judge a b c r rest)
 unfolding judge Tag
 judge-view P r rs rest (Along s) b c ea eb ec v = view-pass P r rs rest (λ t e. absurd (let k : _≡_ {A = ℕ} 0 1 = ap Tag (sym ea ∙ e) in omega arith)) v
