@@ -1,4 +1,6 @@
 // A pattern that looks back, followed by the rules to all its ends: patterns that look forward, with exactly its ways.
+#![tactic(auto)]
+
 mod alternatives;
 mod base;
 mod ending;

@@ -1,4 +1,6 @@
 // The glossary: a block of bytes that gives each label a name.
+#![tactic(auto)]
+
 mod base;
 mod cursor;
 mod entries;

@@ -1,4 +1,5 @@
 // Cases of glossaries and of lists of names: what is accepted, and what is refused, with the reason and the place.
+#![tactic(auto)]
 
 #[cfg(test)]
 mod asking;

@@ -1,4 +1,6 @@
 // From a list of names to the block of a glossary, and from a block to text for a person.
+#![tactic(auto)]
+
 mod showing;
 mod splitting;
 mod writing;

@@ -1,5 +1,7 @@
 // Makes a glossary block of the names on standard input, one a line, writes it to `names.glo`, reads it back and
 // prints each label with its name and the size of the block. A bad list is told on standard error, and nothing is written.
+#![tactic(auto)]
+
 use name_list::{complaint, lines, listing, write_block};
 use refusal::Refusal;
 use std::fs;

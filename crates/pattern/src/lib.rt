@@ -1,4 +1,6 @@
 // Patterns: the rows of a path, what each asks of its place, and the ways in which a record meets them.
+#![tactic(auto)]
+
 mod arrays;
 mod base;
 mod changes;

@@ -1,4 +1,6 @@
 // Records: places in the order in which they come, and the axes between them.
+#![tactic(auto)]
+
 mod axis;
 mod laws;
 mod place;

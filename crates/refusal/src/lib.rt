@@ -1,4 +1,6 @@
 // Why a call refuses, and where: one cause with a number for each reason in the whole system.
+#![tactic(auto)]
+
 mod cause;
 mod memory;
 mod refusing;

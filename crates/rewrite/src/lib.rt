@@ -1,4 +1,6 @@
 // From a pattern that looks back to patterns that look forward, with exactly its ways.
+#![tactic(auto)]
+
 mod laws;
 mod searching;
 mod turns;

@@ -1,4 +1,5 @@
 // Questions with the number of their ends and of the alternatives that are kept, and questions that are refused.
+#![tactic(auto)]
 
 #[cfg(test)]
 mod counted;

@@ -1,4 +1,6 @@
 // Tallies: what the ways of a question come to. A tally is a commutative semiring, as code.
+#![tactic(auto)]
+
 mod counts;
 mod impls;
 mod laws;

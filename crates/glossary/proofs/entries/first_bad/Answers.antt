@@ -9,5 +9,5 @@ loop-k-preserved c = (
   c.next.ensures.same ∙ c.loop-k.invariant.0,
   omega arith,
   below_more _ _ c.loop-k.invariant.2
-      (λ h. both_ways _ h (ap good_name (gave_name _ _ _ _ _ c.loop-k.invariant.0 c.loop-k.invariant.1 c.next.ensures.value) ∙ sym c.if-not-is-name.ensures)),
+      (λ h. both_ways _ h (ap good_name (gave_name _ _ _ _ _ c.loop-k.invariant.0 c.loop-k.invariant.1 c.next.ensures.value) ∙ sym c.if-not-is_name.ensures)),
 )

@@ -10,7 +10,7 @@ returns-then-not-is-name-byte c =
 
 pub loop-byte-preserved : goal.loop-byte-preserved
 loop-byte-preserved c =
-    passes_name_byte _ _ c.loop-byte-test.true (sym c.if-not-is-name-byte.ensures) ∙ c.loop-byte.invariant
+    passes_name_byte _ _ c.loop-byte-test.true (sym c.if-not-is_name_byte.ensures) ∙ c.loop-byte.invariant
 
 pub returns : goal.returns
 returns c =

@@ -10,5 +10,5 @@ returns-in-err-k c =
 
 pub returns : goal.returns
 returns c =
-    let e = listed_label c.args.block.now c.args.count c.args.name.now _ c.in-ok-k.ensures in
+    let e = listed_label c.args.block.now c.args.count c.args.name.now _ c.in_ok-k.ensures in
     record { value = sym e; back = λ l h. name_of_label _ _ l (e ∙ h); only = λ g l h. sym e ∙ label_of_name _ _ l g h }

@@ -13,11 +13,11 @@ returns-in-err-count c =
 
 pub returns : goal.returns
 returns c =
-    let j = c.in-ok-count.ensures.judged in
-    let n = c.in-ok-count.ensures.count in
+    let j = c.in_ok-count.ensures.judged in
+    let n = c.in_ok-count.ensures.count in
     record {
       judged = j;
       alone = λ v w. one_verdict _ v _ w j;
-      stands-for = (refl, subst (λ (k : ℕ). BlockOf (listed c.args.block.now k) c.args.block.now) (sym n) (passed_is_block _ j));
+      stands_for = (refl, subst (λ (k : ℕ). BlockOf (listed c.args.block.now k) c.args.block.now) (sym n) (passed_is_block _ j));
       accepts = λ names b. ap (listed c.args.block.now) n ∙ one_list names _ b;
     }
