@@ -4,9 +4,9 @@ use Rattle.glossary.specs.Names.{all_name_bytes}
 use Rattle.glossary.proofs.Spelling.{stops_at_other, passes_name_byte}
 use Rattle.glossary.proofs.forms.all_name_bytes.Goals as goal
 
-pub returns-then-not-is-name-byte : goal.returns-then-not-is-name-byte
-returns-then-not-is-name-byte c =
-    sym (sym c.loop-byte.invariant ∙ stops_at_other _ _ c.loop-byte-test.true (sym c.if-not-is-name-byte.ensures))
+pub returns-then-not-is_name_byte : goal.returns-then-not-is_name_byte
+returns-then-not-is_name_byte c =
+    sym (sym c.loop-byte.invariant ∙ stops_at_other _ _ c.loop-byte-test.true (sym c.if-not-is_name_byte.ensures))
 
 pub loop-byte-preserved : goal.loop-byte-preserved
 loop-byte-preserved c =

@@ -13,4 +13,4 @@ pub loop-k-preserved : goal.loop-k-preserved
 loop-k-preserved c =
     let names = names_of c.args.glossary.now in
     let h : c.loop-k.k < length names = omega (arith, c.loop-k-test.true, c.count-k-end.ensures) in
-    rows_step names c.loop-k.k _ _ _ h c.loop-k.invariant c.in-Some.ensures.value c.in-ok-append-row.ensures
+    rows_step names c.loop-k.k _ _ _ h c.loop-k.invariant c.in-Some.ensures.value c.in_ok-append_row-in-Some.ensures

@@ -5,6 +5,6 @@ use Rattle.name_list.proofs.showing.append_row.Goals as goal
 
 pub returns : goal.returns
 returns c =
-    let one = pushed c.as-bytes.result.now refl c.in-ok-extend-from-slice.was c.extend-from-slice.ensures.items in
-    let two = pushed c.args.name.now one c.in-ok-extend-from-slice-2.was c.extend-from-slice-2.ensures.items in
-    pushed (10 ∷ []) two c.in-ok-push.was c.push.ensures.items ∙ four_pieces (vec_items c.args.text.now) c.as-bytes.result.now (decimal c.args.label) (codes " ") c.args.name.now (10 ∷ []) (c.as-bytes.ensures.value ∙ c.in-ok-label.ensures.ok)
+    let one = pushed c.as_bytes.result.now refl c.in_ok-extend_from_slice.was c.extend_from_slice.ensures.items in
+    let two = pushed c.args.name.now one c.in_ok-extend_from_slice-2.was c.extend_from_slice-2.ensures.items in
+    pushed (10 ∷ []) two c.in_ok-push.was c.push.ensures.items ∙ four_pieces (vec_items c.args.text.now) c.as_bytes.result.now (decimal c.args.label) (codes " ") c.args.name.now (10 ∷ []) (c.as_bytes.ensures.value ∙ c.in_ok-label.ensures.ok)

@@ -9,12 +9,12 @@ use Rattle.name_list.proofs.Judging.{good_name_length, not_bad, encode_more}
 use Rattle.name_list.proofs.Slices.{bytes_at, length_bytes_of}
 use Rattle.name_list.proofs.writing.encode.Goals as goal
 
-pub overflow-cast-names : goal.overflow-cast-names
-overflow-cast-names c = omega (arith, c.requires.few, length_bytes_of c.args.names.now)
+pub overflow_cast-names : goal.overflow_cast-names
+overflow_cast-names c = omega (arith, c.requires.few, length_bytes_of c.args.names.now)
 
 pub loop-i-init : goal.loop-i-init
 loop-i-init c =
-    pushed (length c.args.names.now ∷ []) c.new-block.ensures.items c.in-ok-push.was c.push.ensures.items
+    pushed (length c.args.names.now ∷ []) c.new-block.ensures.items c.in_ok-push.was c.push.ensures.items
     ∙ ap (λ (n : ℕ). n ∷ []) (sym (length_bytes_of c.args.names.now))
 
 pub append-requires : goal.append-requires
@@ -28,7 +28,7 @@ pub loop-i-preserved : goal.loop-i-preserved
 loop-i-preserved c =
     let names = bytes_of c.args.names.now in
     let inside : c.loop-i.i < length names = omega (arith, c.loop-i-test.true, length_bytes_of c.args.names.now) in
-    encode_more names c.loop-i.i _ _ _ inside c.loop-i.invariant (bytes_at c.args.names.now c.loop-i.i _ c.loop-i-test.true) c.in-ok-append.ensures
+    encode_more names c.loop-i.i _ _ _ inside c.loop-i.invariant (bytes_at c.args.names.now c.loop-i.i _ c.loop-i-test.true) c.in_ok-append.ensures
 
 pub returns : goal.returns
 returns c =

@@ -5,11 +5,11 @@ use Rattle.glossary.specs.Layout.{listed}
 use Rattle.glossary.proofs.Verdicts.{one_verdict, passed_is_block, refused_is_no_block, one_list}
 use Rattle.glossary.proofs.base.Glossary.new.Goals as goal
 
-pub returns-in-err-count : goal.returns-in-err-count
-returns-in-err-count c =
-    let p = err_from_is_err_and c.from-residual.result c.from-residual.ensures.1 in
-    let j = c.in-err-count.ensures.judged in
-    rw (p.1, p.2) (record { judged = j; alone = λ v w. one_verdict _ v _ w j; stands-for = tt; accepts = λ names b. refused_is_no_block names _ _ j b })
+pub returns-in_err-count : goal.returns-in_err-count
+returns-in_err-count c =
+    let p = err_from_is_err_and c.from_residual.result c.from_residual.ensures.1 in
+    let j = c.in_err-count.ensures.judged in
+    rw (p.1, p.2) (record { judged = j; alone = λ v w. one_verdict _ v _ w j; stands_for = tt; accepts = λ names b. refused_is_no_block names _ _ j b })
 
 pub returns : goal.returns
 returns c =
