@@ -6,14 +6,14 @@ use Rattle.pattern.proofs.looking.all_go_along.Goals as goal
 pub loop-i-init : goal.loop-i-init
 loop-i-init c = passed_none _
 
-pub returns-then-not-is-ahead : goal.returns-then-not-is-ahead
+pub returns-then-not-is_ahead : goal.returns-then-not-is_ahead
 unfolding all_along
-returns-then-not-is-ahead c =
-    sym (one_fails (λ i. ahead (row c.args.rows.now i)) c.loop-i.i (omega arith) (omega arith) (sym c.if-not-is-ahead.ensures))
+returns-then-not-is_ahead c =
+    sym (one_fails (λ i. ahead (row c.args.rows.now i)) c.loop-i.i (omega arith) (omega arith) (sym c.if-not-is_ahead.ensures))
 
 pub loop-i-preserved : goal.loop-i-preserved
 loop-i-preserved c =
-    passed_more (λ i. ahead (row c.args.rows.now i)) c.loop-i.i c.loop-i.invariant (sym c.if-not-is-ahead.ensures)
+    passed_more (λ i. ahead (row c.args.rows.now i)) c.loop-i.i c.loop-i.invariant (sym c.if-not-is_ahead.ensures)
 
 pub returns : goal.returns
 unfolding all_along

@@ -11,4 +11,4 @@ returns-then-r-eq0 c = eq-eqb _ _ c.if-r-eq0.true ∙ sym (or_left _ _ (eq-eqb _
 pub returns-else-r-eq0 : goal.returns-else-r-eq0
 unfolding live
 returns-else-r-eq0 c =
-    ap (λ (x : Row). x.used) c.row-at.ensures ∙ sym (ap (λ (b : Bool). b || (row c.args.rows.now c.args.r).used) (ne_eqb _ _ c.if-r-eq0.false))
+    ap (λ (x : Row). x.used) c.row_at.ensures ∙ sym (ap (λ (b : Bool). b || (row c.args.rows.now c.args.r).used) (ne_eqb _ _ c.if-r-eq0.false))

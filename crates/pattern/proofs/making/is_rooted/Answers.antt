@@ -6,14 +6,14 @@ use Rattle.pattern.proofs.making.is_rooted.Goals as goal
 pub loop-i-init : goal.loop-i-init
 loop-i-init c = passed_none _
 
-pub returns-then-not-is-well-hung : goal.returns-then-not-is-well-hung
+pub returns-then-not-is_well_hung : goal.returns-then-not-is_well_hung
 unfolding rooted
-returns-then-not-is-well-hung c =
-    sym (one_fails (well_hung (λ i. (row c.args.rows.now i).used) (λ i. (row c.args.rows.now i).up)) c.loop-i.i (omega arith) (omega arith) (sym c.if-not-is-well-hung.ensures))
+returns-then-not-is_well_hung c =
+    sym (one_fails (well_hung (λ i. (row c.args.rows.now i).used) (λ i. (row c.args.rows.now i).up)) c.loop-i.i (omega arith) (omega arith) (sym c.if-not-is_well_hung.ensures))
 
 pub loop-i-preserved : goal.loop-i-preserved
 loop-i-preserved c =
-    passed_more (well_hung (λ i. (row c.args.rows.now i).used) (λ i. (row c.args.rows.now i).up)) c.loop-i.i c.loop-i.invariant (sym c.if-not-is-well-hung.ensures)
+    passed_more (well_hung (λ i. (row c.args.rows.now i).used) (λ i. (row c.args.rows.now i).up)) c.loop-i.i c.loop-i.invariant (sym c.if-not-is_well_hung.ensures)
 
 pub returns : goal.returns
 unfolding rooted

@@ -15,16 +15,16 @@ pub returns-then-not-row : goal.returns-then-not-row
 returns-then-not-row c =
     let used : ℕ → Bool = (λ i. (row c.args.rows.now i).used) in
     let up : ℕ → ℕ = (λ i. (row c.args.rows.now i).up) in
-    sym (sym c.loop-k.invariant ∙ climbs_stops used up (16 - c.loop-k.k) c.loop-k.r (omega arith) c.if-r-eq0.false (ap (λ (x : Row). x.used) (sym c.row-at-row.ensures) ∙ not-true _ c.if-not-row.true))
+    sym (sym c.loop-k.invariant ∙ climbs_stops used up (16 - c.loop-k.k) c.loop-k.r (omega arith) c.if-r-eq0.false (ap (λ (x : Row). x.used) (sym c.row_at-row.ensures) ∙ not-true _ c.if-not-row.true))
 
 pub loop-k-preserved : goal.loop-k-preserved
 loop-k-preserved c =
     let used : ℕ → Bool = (λ i. (row c.args.rows.now i).used) in
     let up : ℕ → ℕ = (λ i. (row c.args.rows.now i).up) in
     let z : 16 - (c.loop-k.k + 1) ≡ (16 - c.loop-k.k) - 1 = omega arith in
-    ap (λ m. climbs used up m c.row-at-row.result.up) z
-    ∙ (ap (climbs used up ((16 - c.loop-k.k) - 1)) (ap (λ (x : Row). x.up) c.row-at-row.ensures)
-    ∙ (climbs_goes used up (16 - c.loop-k.k) c.loop-k.r (omega arith) c.if-r-eq0.false (ap (λ (x : Row). x.used) (sym c.row-at-row.ensures) ∙ not-false _ c.if-not-row.false)
+    ap (λ m. climbs used up m c.row_at-row.result.up) z
+    ∙ (ap (climbs used up ((16 - c.loop-k.k) - 1)) (ap (λ (x : Row). x.up) c.row_at-row.ensures)
+    ∙ (climbs_goes used up (16 - c.loop-k.k) c.loop-k.r (omega arith) c.if-r-eq0.false (ap (λ (x : Row). x.used) (sym c.row_at-row.ensures) ∙ not-false _ c.if-not-row.false)
     ∙ c.loop-k.invariant))
 
 pub returns : goal.returns

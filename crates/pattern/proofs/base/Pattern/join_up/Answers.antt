@@ -10,15 +10,13 @@ bounds-self-y c = y_high c.args.self.rows (omega arith) c.args.self.ok c.args.z 
 pub hang-requires : goal.hang-requires
 hang-requires c = y_high c.args.self.rows (omega arith) c.args.self.ok c.args.z c.requires.low c.requires.high c.requires.live c.requires.below
 
-pub merge-into-requires : goal.merge-into-requires
-merge-into-requires c = record { low = c.requires.low; high = c.requires.high; within = w_high c.args.self.rows (omega arith) c.args.self.ok c.args.z c.requires.low c.requires.high c.requires.live c.requires.below; two = w_z c.args.self.rows (omega arith) c.args.self.ok c.args.z c.requires.low c.requires.high c.requires.live c.requires.below }
+pub merge_into-requires : goal.merge_into-requires
+merge_into-requires c = record { low = c.requires.low; high = c.requires.high; within = w_high c.args.self.rows (omega arith) c.args.self.ok c.args.z c.requires.low c.requires.high c.requires.live c.requires.below; two = w_z c.args.self.rows (omega arith) c.args.self.ok c.args.z c.requires.low c.requires.high c.requires.live c.requires.below }
 
-pub invariant-of-result : goal.invariant-of-result
-invariant-of-result c =
-    let m = subst (λ o. MergedInto o c.args.z (second c.args.self.rows c.args.z) c.in-Some.rows) c.hang.ensures c.in-Some.ensures in (
-      moved_rooted c.args.self.rows (omega arith) c.args.self.ok c.args.z c.requires.low c.requires.high c.requires.live c.requires.below (Join c.args.step) _ m,
-      (subst (λ (o : ℕ). live c.in-Some.rows o ≡ true) (sym c.redirect-output.ensures) (moved_live c.args.self.rows (omega arith) c.args.self.ok c.args.z c.requires.low c.requires.high c.requires.live c.requires.below (Join c.args.step) _ m _ c.args.self.shown), (omega arith, tt)),
-    )
+pub invariant_of-result : goal.invariant_of-result
+invariant_of-result c =
+    let m = subst (λ o. MergedInto o c.args.z (second c.args.self.rows c.args.z) c.in-Some.rows) c.hang.ensures c.in-Some.ensures in
+    record { ok = moved_rooted c.args.self.rows (omega arith) c.args.self.ok c.args.z c.requires.low c.requires.high c.requires.live c.requires.below (Join c.args.step) _ m; shown = subst (λ (o : ℕ). live c.in-Some.rows o ≡ true) (sym c.redirect-output.ensures) (moved_live c.args.self.rows (omega arith) c.args.self.ok c.args.z c.requires.low c.requires.high c.requires.live c.requires.below (Join c.args.step) _ m _ c.args.self.shown); whole = omega arith }
 
 pub returns-in-None : goal.returns-in-None
 returns-in-None c = join_none c.args.self.rows (omega arith) c.args.self.ok c.args.z c.requires.low c.requires.high c.requires.live c.requires.below _ _ c.hang.ensures c.in-None.ensures

@@ -23,6 +23,6 @@ pub returns : goal.returns
 unfolding inner
 returns c =
     record {
-      cases = (and_from _ _ (not_from_false _ (ne_eqb _ _ c.if-z-eq0.false)) c.if-not-self-z.false, c.merge-row.ensures);
-      kept = λ places rec e p. merged_ways places rec c.args.self (omega arith) c.args.z (omega arith) c.if-z-ge16.false c.if-not-self-z.false e c.merge-row.result c.merge-row.ensures p;
+      cases = (and_from _ _ (not_from_false _ (ne_eqb _ _ c.if-z-eq0.false)) c.if-not-self-z.false, c.merge_row.ensures);
+      kept = λ places rec e p. merged_ways places rec c.args.self (omega arith) c.args.z (omega arith) c.if-z-ge16.false c.if-not-self-z.false e c.merge_row.result c.merge_row.ensures p;
     }

@@ -11,9 +11,7 @@ bounds-self-y c = y_high c.args.self.rows (omega arith) c.args.self.ok c.args.z 
 pub hang-rows-requires : goal.hang-rows-requires
 hang-rows-requires c = y_high c.args.self.rows (omega arith) c.args.self.ok c.args.z c.requires.low c.requires.high c.requires.live c.requires.below
 
-pub invariant-of-result : goal.invariant-of-result
-invariant-of-result c =
-    let e = c.hang-rows.ensures ∙ ap (λ o. rehung o (row c.args.self.rows c.args.z).up c.args.z (Along c.args.then)) c.hang.ensures in (
-      moved_rooted c.args.self.rows (omega arith) c.args.self.ok c.args.z c.requires.low c.requires.high c.requires.live c.requires.below (Between c.args.first c.args.then) _ e,
-      (moved_live c.args.self.rows (omega arith) c.args.self.ok c.args.z c.requires.low c.requires.high c.requires.live c.requires.below (Between c.args.first c.args.then) _ e _ c.args.self.shown, (omega arith, tt)),
-    )
+pub invariant_of-result : goal.invariant_of-result
+invariant_of-result c =
+    let e = c.hang-rows.ensures ∙ ap (λ o. rehung o (row c.args.self.rows c.args.z).up c.args.z (Along c.args.then)) c.hang.ensures in
+    record { ok = moved_rooted c.args.self.rows (omega arith) c.args.self.ok c.args.z c.requires.low c.requires.high c.requires.live c.requires.below (Between c.args.first c.args.then) _ e; shown = moved_live c.args.self.rows (omega arith) c.args.self.ok c.args.z c.requires.low c.requires.high c.requires.live c.requires.below (Between c.args.first c.args.then) _ e _ c.args.self.shown; whole = omega arith }

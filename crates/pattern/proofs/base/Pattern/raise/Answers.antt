@@ -6,8 +6,6 @@ use Rattle.pattern.proofs.base.Pattern.raise.Goals as goal
 pub bounds-self-row : goal.bounds-self-row
 bounds-self-row c = y_high c.args.self.rows (omega arith) c.args.self.ok c.args.z c.requires.low c.requires.high c.requires.live c.requires.below
 
-pub invariant-of-result : goal.invariant-of-result
-invariant-of-result c = (
-  moved_rooted c.args.self.rows (omega arith) c.args.self.ok c.args.z c.requires.low c.requires.high c.requires.live c.requires.below Up _ c.hang-rows.ensures,
-  (moved_live c.args.self.rows (omega arith) c.args.self.ok c.args.z c.requires.low c.requires.high c.requires.live c.requires.below Up _ c.hang-rows.ensures _ c.args.self.shown, (omega arith, tt)),
-)
+pub invariant_of-result : goal.invariant_of-result
+invariant_of-result c =
+    record { ok = moved_rooted c.args.self.rows (omega arith) c.args.self.ok c.args.z c.requires.low c.requires.high c.requires.live c.requires.below Up _ c.hang-rows.ensures; shown = moved_live c.args.self.rows (omega arith) c.args.self.ok c.args.z c.requires.low c.requires.high c.requires.live c.requires.below Up _ c.hang-rows.ensures _ c.args.self.shown; whole = omega arith }
