@@ -7,5 +7,5 @@ use Rattle.rewrite.proofs.searching.next_turn.Goals as goal
 
 pub returns : goal.returns
 returns c =
-    let e : c.turn-in.result ≡ turn_of c.args.pattern.rows = c.turn-in.ensures ∙ ap (λ (rs : List Row). turn_of rs) c.rows-rows.ensures in
+    let e : c.turn_in.result ≡ turn_of c.args.pattern.rows = c.turn_in.ensures ∙ ap (λ (rs : List Row). turn_of rs) c.rows-rows.ensures in
     record { value = e; told = subst (λ (t : Turn). Told c.args.pattern t) (sym e) (told c.args.pattern) }
