@@ -2,17 +2,19 @@
 // prints each label with its name and the size of the block. A bad list is told on standard error, and nothing is written.
 #![tactic(auto)]
 
+use anyhow::anyhow;
 use name_list::{complaint, lines, listing, write_block};
 use refusal::Refusal;
 use std::fs;
 use std::io::{Read, Write};
+use std::process::ExitCode;
 
 const FILE: &str = "names.glo";
 
 fn told(rt: &HostRuntime, refusal: Refusal) -> anyhow::Error {
     match complaint(rt.alloc(), refusal) {
-        Ok(text) => text.as_str().into(),
-        Err(_) => "no memory is left".into(),
+        Ok(text) => anyhow!("{text}"),
+        Err(_) => anyhow!("no memory is left"),
     }
 }
 
@@ -33,12 +35,12 @@ fn run(rt: &HostRuntime) -> anyhow::Result<()> {
     Ok(())
 }
 
-fn main(rt: HostRuntime) -> anyhow::Result<()> {
+fn main(rt: HostRuntime) -> ExitCode {
     match run(&rt) {
-        Ok(()) => Ok(()),
+        Ok(()) => ExitCode::SUCCESS,
         Err(error) => {
-            eprintln!(rt; "names: {error}")?;
-            Err(error)
+            let _ = eprintln!(rt; "names: {error}");
+            ExitCode::FAILURE
         }
     }
 }
