@@ -14,8 +14,16 @@ fn same_refusal(
     number: u8,
     position: usize,
 ) -> Result<(), Fail> {
-    assert_eq!(rt; refusal.cause.number(), number);
-    assert_eq!(rt; refusal.position, position);
+    assert_eq!(rt;
+        refusal.cause.number(),
+        number,
+        "expected {number} at {position}"
+    );
+    assert_eq!(rt;
+        refusal.position,
+        position,
+        "expected {number} at {position}"
+    );
     Ok(())
 }
 
@@ -26,11 +34,10 @@ pub(crate) fn refused(
     number: u8,
     position: usize,
 ) -> Result<(), Fail> {
-    let outcome = match Glossary::new(block) {
-        Ok(_) => Err(Fail::new("the block is accepted")),
+    match Glossary::new(block) {
+        Ok(_) => panic!(rt; "the block {block:?} is accepted, expected {number} at {position}"),
         Err(refusal) => same_refusal(rt, refusal, number, position),
-    };
-    outcome.note(format_args!("expected {number} at {position}"))
+    }
 }
 
 // The list is refused with that number at that position.
@@ -41,11 +48,13 @@ pub(crate) fn list_refused(
     number: u8,
     position: usize,
 ) -> Result<(), Fail> {
-    let outcome = match write_block(heap, names) {
-        Ok(_) => Err(Fail::new("the list is accepted")),
+    match write_block(heap, names) {
+        Ok(_) => panic!(rt;
+            "a list of {} names is accepted, expected {number} at {position}",
+            names.len()
+        ),
         Err(refusal) => same_refusal(rt, refusal, number, position),
-    };
-    outcome.note(format_args!("expected {number} at {position}"))
+    }
 }
 
 // The label and the name belong together.
@@ -55,8 +64,8 @@ pub(crate) fn paired(
     label: u16,
     name: &[u8],
 ) -> Result<(), Fail> {
-    assert_eq!(rt; glossary.label(name), Some(label));
-    assert_eq!(rt; glossary.name(label), Some(name));
+    assert_eq!(rt; glossary.label(name), Some(label), "at the name {name:?}");
+    assert_eq!(rt; glossary.name(label), Some(name), "at the label {label}");
     Ok(())
 }
 
@@ -64,7 +73,7 @@ pub(crate) fn paired(
 pub(crate) fn holds_full_list(rt: &impl Abort, glossary: &Glossary<'_>) -> Result<(), Fail> {
     assert_eq!(rt; glossary.count(), 200);
     for label in 1..201 {
-        paired(rt, glossary, label, &numbered(label - 1)).note(label)?;
+        paired(rt, glossary, label, &numbered(label - 1))?;
     }
     assert_eq!(rt; glossary.label(&numbered(200)), None);
     assert!(rt; glossary.name(0).is_none());

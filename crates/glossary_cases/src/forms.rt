@@ -9,7 +9,7 @@ use std::test::Fail;
 
 // The bytes are a name.
 fn good(rt: &impl Abort, heap: Global, name: &[u8]) -> Result<(), Fail> {
-    assert!(rt; is_name(name));
+    assert!(rt; is_name(name), "{name:?} is a name");
     let block = block_of_one(heap, name)?;
     paired(rt, &Glossary::new(&block)?, 1, name)?;
     assert_eq!(rt; write_block(heap, &[name])?.as_slice(), block.as_slice());
@@ -18,7 +18,7 @@ fn good(rt: &impl Abort, heap: Global, name: &[u8]) -> Result<(), Fail> {
 
 // The bytes are no name.
 fn bad(rt: &impl Abort, heap: Global, name: &[u8]) -> Result<(), Fail> {
-    assert!(rt; !is_name(name));
+    assert!(rt; !is_name(name), "{name:?} is no name");
     refused(rt, &block_of_one(heap, name)?, 13, 1)?;
     list_refused(rt, heap, &[name], 13, 1)
 }
@@ -36,7 +36,7 @@ fn good_names(rt: HostRuntime) -> Result<(), Fail> {
         "abcdefghijklmnop",
         "q--------------9",
     ] {
-        good(&rt, rt.alloc(), name.as_bytes()).note(name)?;
+        good(&rt, rt.alloc(), name.as_bytes())?;
     }
     Ok(())
 }
@@ -60,7 +60,7 @@ fn bad_names(rt: HostRuntime) -> Result<(), Fail> {
         "abcdefghijklmnopq",
         "abcdefghijklmnop_",
     ] {
-        bad(&rt, rt.alloc(), name.as_bytes()).note(name)?;
+        bad(&rt, rt.alloc(), name.as_bytes())?;
     }
     Ok(())
 }
@@ -71,9 +71,9 @@ fn first_bytes(rt: HostRuntime) -> Result<(), Fail> {
     let heap = rt.alloc();
     for byte in 0..=u8::MAX {
         if b"abcdefghijklmnopqrstuvwxyz".contains(&byte) {
-            good(&rt, heap, &[byte]).note(byte)?;
+            good(&rt, heap, &[byte])?;
         } else {
-            bad(&rt, heap, &[byte]).note(byte)?;
+            bad(&rt, heap, &[byte])?;
         }
     }
     Ok(())
@@ -85,9 +85,9 @@ fn later_bytes(rt: HostRuntime) -> Result<(), Fail> {
     let heap = rt.alloc();
     for byte in 0..=u8::MAX {
         if b"abcdefghijklmnopqrstuvwxyz0123456789-".contains(&byte) {
-            good(&rt, heap, &[b'a', byte, b'z']).note(byte)?;
+            good(&rt, heap, &[b'a', byte, b'z'])?;
         } else {
-            bad(&rt, heap, &[b'a', byte, b'z']).note(byte)?;
+            bad(&rt, heap, &[b'a', byte, b'z'])?;
         }
     }
     Ok(())
@@ -102,9 +102,9 @@ fn lengths(rt: HostRuntime) -> Result<(), Fail> {
     for size in 1..256 {
         let name = front(&letters, size)?;
         if size < 17 {
-            good(&rt, heap, name).note(size)?;
+            good(&rt, heap, name)?;
         } else {
-            bad(&rt, heap, name).note(size)?;
+            bad(&rt, heap, name)?;
         }
     }
     Ok(())

@@ -20,7 +20,7 @@ fn cut_anywhere(rt: HostRuntime) -> Result<(), Fail> {
     assert_eq!(rt; block.len(), 1001);
     refused(&rt, front(&block, 0)?, 11, 0)?;
     for size in 1..1001 {
-        refused(&rt, front(&block, size)?, 12, (size - 1) / 5 + 1).note(size)?;
+        refused(&rt, front(&block, size)?, 12, (size - 1) / 5 + 1)?;
     }
     assert!(rt; Glossary::new(&block).is_ok());
     Ok(())
@@ -32,7 +32,7 @@ fn one_byte_more(rt: HostRuntime) -> Result<(), Fail> {
     for byte in [0, 1, b'a', u8::MAX] {
         let mut block = block_of(heap, &numbered_list(heap, 200)?)?;
         block.push(byte)?;
-        refused(&rt, &block, 12, 0).note(byte)?;
+        refused(&rt, &block, 12, 0)?;
     }
     Ok(())
 }
@@ -49,7 +49,7 @@ fn another_count(rt: HostRuntime) -> Result<(), Fail> {
         (255, 11, 0),
     ] {
         *block.get_mut(0).ok_or("no count")? = count;
-        refused(&rt, &block, number, position).note(count)?;
+        refused(&rt, &block, number, position)?;
     }
     Ok(())
 }

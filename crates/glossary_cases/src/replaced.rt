@@ -40,7 +40,7 @@ fn one_name(rt: HostRuntime) -> Result<(), Fail> {
     ] {
         let mut names = numbered_list(heap, 200)?;
         replace(&mut names, place, name)?;
-        both_refused(&rt, heap, &names, number, position).note(place)?;
+        both_refused(&rt, heap, &names, number, position)?;
     }
     Ok(())
 }
@@ -60,7 +60,7 @@ fn two_names(rt: HostRuntime) -> Result<(), Fail> {
         let mut names = numbered_list(heap, 200)?;
         replace(&mut names, place, name)?;
         replace(&mut names, other_place, other_name)?;
-        both_refused(&rt, heap, &names, number, position).note(place)?;
+        both_refused(&rt, heap, &names, number, position)?;
     }
     Ok(())
 }

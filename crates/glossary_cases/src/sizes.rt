@@ -57,7 +57,7 @@ fn too_large(rt: HostRuntime) -> Result<(), Fail> {
     let mut block = [0; 4097].to_vec(rt.alloc())?;
     for count in [0, 1, 16, 200, 201, 255] {
         *block.get_mut(0).ok_or("no count")? = count;
-        refused(&rt, &block, 11, 0).note(count)?;
+        refused(&rt, &block, 11, 0)?;
     }
     Ok(())
 }
