@@ -1,15 +1,14 @@
 -- A homomorphism of semirings carries the value of a pattern.
-use Rattle.std.proofs.Common.{◌≡◌, ℕ, Bool, eqb, List, [], ◌∷◌, length, sym, refl, ap, ◌∙◌, ap₂}
+use Rattle.std.proofs.Common.{◌≡◌, ℕ, eqb, List, [], ◌∷◌, length, sym, refl, ap, ◌∙◌, ap₂}
 use mathlib.Core.Path.{fun_ext}
 use Rattle.record.specs.Records.{depth_at}
 use Rattle.record.specs.declared.place.Place.{Place}
-use Rattle.tally.specs.Semirings.{Semiring, Carries, bracket, sum, product}
+use Rattle.tally.specs.Semirings.{Semiring, Carries, sum}
 use Rattle.tally.proofs.Carrying.{yes_follows_the_number, count_follows_the_number}
 use Rattle.tally.proofs.Sums.{carries_bracket, carries_sum, carries_product}
 use Rattle.pattern.specs.Laws.{YesIsAWay, CountIsTheWays}
 use Rattle.pattern.specs.Questions.{label_at, pattern_of, test_gain, value_within, value_at, ways}
 use Rattle.pattern.specs.Rows.{row}
-use Rattle.pattern.specs.Tests.{passes}
 use Rattle.ways.specs.Ways.{upd, Weighted, link, is_way, sum_rows, gains, value, weighted, held}
 use Rattle.pattern.specs.declared.base.Pattern.{Pattern}
 use Rattle.ways.proofs.RowSums.{upd_carries}

@@ -1,5 +1,5 @@
 -- Ways compute.
-use Rattle.std.proofs.Common.{◌≡◌, ℕ, List, map, length, refl, ◌∙◌, ap₂}
+use Rattle.std.proofs.Common.{◌≡◌, ℕ, List, map, refl, ◌∙◌, ap₂}
 use Rattle.std.specs.List.{range_with_len}
 use Rattle.record.specs.Axes.{last_before, parent_of, is_place, child, under, descendant, same_place, following_sibling, some_below, next, or_self, following, leads, reaches, holds}
 use Rattle.record.specs.Example.{eleven}
@@ -9,7 +9,6 @@ use Rattle.tally.specs.Tallies.{naturals}
 use Rattle.pattern.specs.Example.{WayExamples, HasWays, ancestors_of_dust, parents_in_bags, all_by_star}
 use Rattle.pattern.specs.Questions.{label_at, sift, pattern_of, test_gain, value_within, value_at, ways}
 use Rattle.ways.specs.Ways.{upd, remove, all_rows, link, is_way, sum_rows, gains, value, weighted, held}
-use Rattle.pattern.specs.declared.base.Pattern.{Pattern}
 use Rattle.pattern.specs.declared.row.Row.{Row}
 
 -- the ways of an array of rows

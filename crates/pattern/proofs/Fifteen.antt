@@ -1,8 +1,8 @@
 -- What is asked of the fifteen rows, one by one, and the way up from a row.
-use Rattle.std.proofs.Common.{◌≡◌, ℕ, zero, suc, ◌+◌, ◌-◌, ◌<◌, ◌≤◌, Bool, true, false, not, ◌&&◌, ◌||◌, eqb, List, sym, refl, ap, ◌∙◌, subst, inl, inr, arith}
-use Rattle.std.proofs.lemmas.Bool.{both_ways, cases_Bool, cases_eq, eq-eqb, ne_eqb, and_left}
+use Rattle.std.proofs.Common.{◌≡◌, ℕ, zero, suc, ◌+◌, ◌-◌, ◌<◌, ◌≤◌, Bool, true, false, ◌&&◌, ◌||◌, eqb, sym, refl, ap, ◌∙◌, subst, inl, inr, arith}
+use Rattle.std.proofs.lemmas.Bool.{both_ways, cases_Bool, cases_eq, ne_eqb, and_left}
 use Rattle.pattern.specs.Rows.{fifteen, climbs}
-use Rattle.ways.specs.Ways.{In, all_rows}
+use Rattle.ways.specs.Ways.{all_rows}
 use Rattle.ways.proofs.RowLists.{all_decides}
 use Rattle.pattern.proofs.Trees.{fifteen_in, in_fifteen}
 

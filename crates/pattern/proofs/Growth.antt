@@ -1,9 +1,9 @@
 -- A record that begins with another has its ways too.
-use Rattle.std.proofs.Common.{◌≡◌, ℕ, zero, suc, ◌+◌, ◌<◌, ◌≤◌, Bool, true, false, eqb, List, [], ◌∷◌, ◌++◌, length, sym, refl, ap, ◌∙◌, subst, ap₂, inl, inr, arith}
+use Rattle.std.proofs.Common.{◌≡◌, ℕ, zero, suc, ◌+◌, ◌<◌, ◌≤◌, List, [], ◌∷◌, ◌++◌, length, refl, ap, ◌∙◌, subst, ap₂, inl, inr, arith}
 use Rattle.std.proofs.lemmas.List.{get_or_append_left, length-append}
 use Rattle.std.proofs.lemmas.Bool.{cases_eq}
 use Rattle.record.specs.Axes.{holds}
-use Rattle.record.specs.Records.{Record, root, place, depth_at}
+use Rattle.record.specs.Records.{root, depth_at}
 use Rattle.record.specs.declared.place.Place.{Place}
 use Rattle.record.proofs.Prefixes.{holds_same}
 use Rattle.tally.specs.Semirings.{Semiring, bracket, sum, product}
@@ -12,7 +12,7 @@ use Rattle.pattern.specs.Laws.{PrefixesKeepTheValue, MorePlacesLoseNoWay}
 use Rattle.pattern.specs.Questions.{label_at, pattern_of, test_gain, value_within, value_at, ways}
 use Rattle.pattern.specs.Rows.{row}
 use Rattle.pattern.specs.Tests.{passes}
-use Rattle.ways.specs.Ways.{upd, In, Weighted, all_rows, link, is_way, sum_rows, gains, value, weighted, held}
+use Rattle.ways.specs.Ways.{upd, Weighted, all_rows, link, is_way, sum_rows, gains, value, weighted, held}
 use Rattle.pattern.specs.declared.base.Pattern.{Pattern}
 use Rattle.pattern.specs.declared.row.Test.{Test}
 use Rattle.pattern.specs.declared.row.Test.TheVariants.{Any, Star, Label, Root}

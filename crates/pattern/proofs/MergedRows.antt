@@ -1,20 +1,19 @@
 -- Merging in the array is merging of the pattern.
-use Rattle.std.proofs.Common.{◌≡◌, ℕ, zero, suc, ◌+◌, ◌-◌, ◌<◌, ◌≤◌, Bool, true, false, cond, not, ◌&&◌, eqb, ◌≢◌, ◌⊎◌, List, [], ◌∷◌, length, get_or, set, Some, None, Option, sym, refl, ap, ◌∙◌, subst, ap₂, inl, inr, arith}
+use Rattle.std.proofs.Common.{◌≡◌, ℕ, ◌<◌, ◌≤◌, true, false, cond, eqb, ◌≢◌, List, length, set, Some, None, sym, refl, ap, ◌∙◌, subst, ap₂, inl, inr, arith}
 use mathlib.Core.Path.{fun_ext}
-use Rattle.std.proofs.lemmas.List.{get_or-set_same, get_or-set_other, get_or_past, length-set}
+use Rattle.std.proofs.lemmas.List.{get_or-set_same, get_or-set_other, length-set}
 use Rattle.std.proofs.lemmas.Bool.{cases_eq, cases_Bool, eq-eqb, ne_eqb, or_cases, or_left, or_right}
 use Rattle.record.specs.declared.axis.Axis.{Axis}
 use Rattle.tally.specs.Semirings.{Semiring, bracket}
-use Rattle.ways.specs.Ways.{upd, In, remove, Weighted, Tree}
-use Rattle.ways.specs.Merging.{Under, merged}
-use Rattle.ways.proofs.RowSums.{upd_same, upd_other}
+use Rattle.ways.specs.Ways.{upd, Weighted, Tree}
+use Rattle.ways.specs.Merging.{merged}
 use Rattle.tally.proofs.Sums.{bracket_and, bracket_off}
 use Rattle.ways.proofs.Merges.{tree_under, tree_merged}
 use Rattle.pattern.specs.declared.row.Row.{Row}
 use Rattle.pattern.specs.declared.row.Test.{Test}
 use Rattle.pattern.specs.Tests.{joined, passes, JoinTold}
 use Rattle.pattern.specs.Rows.{top, row, fifteen, rooted, live, redirected, merged_row, MergedInto, Merged}
-use Rattle.pattern.specs.Questions.{sift, pattern_of}
+use Rattle.pattern.specs.Questions.{pattern_of}
 use Rattle.pattern.proofs.Joined.{join_told}
 use Rattle.pattern.proofs.Trees.{sift_drop, sift_cong, fifteen_apart, in_rows, rows_in, height, tree_of, rooted_from}
 

@@ -1,8 +1,8 @@
 -- A row that is moved in the array is moved in the pattern.
-use Rattle.std.proofs.Common.{◌≡◌, ℕ, zero, suc, ◌+◌, ◌<◌, ◌≤◌, Bool, true, false, cond, not, ◌&&◌, eqb, ◌≢◌, ◌⊎◌, List, [], ◌∷◌, length, get_or, set, None, sym, refl, ap, ◌∙◌, subst, ap₂, inl, inr, arith}
+use Rattle.std.proofs.Common.{◌≡◌, ℕ, ◌+◌, ◌<◌, ◌≤◌, true, false, ◌≢◌, List, length, None, sym, refl, ap, ◌∙◌, subst, ap₂, inl, inr, arith}
 use mathlib.Core.Path.{fun_ext}
 use Rattle.std.proofs.lemmas.List.{get_or-set_same, get_or-set_other, get_or_past, length-set}
-use Rattle.std.proofs.lemmas.Bool.{cases_eq, cases_lt, eq-eqb, ne_eqb, eqb-false, ltb-true, and_parts, not-true, both_ways}
+use Rattle.std.proofs.lemmas.Bool.{cases_eq, cases_lt, eqb-false, ltb-true, and_parts, not-true, both_ways}
 use Rattle.record.specs.declared.axis.Axis.{Axis}
 use Rattle.record.specs.declared.axis.Axis.TheVariants.{Along}
 use Rattle.record.specs.declared.rules.Move.{Move}
@@ -15,11 +15,11 @@ use Rattle.ways.proofs.Merges.{tree_axed}
 use Rattle.ways.proofs.RowSums.{upd_same, upd_other}
 use Rattle.ways.proofs.Whole.{ranked, tree_kept}
 use Rattle.pattern.specs.Questions.{sift, pattern_of}
-use Rattle.pattern.specs.Rows.{top, row, hung, rehung, second, inner, deep, free_two, room, live, fifteen, rooted, MergedInto, MovedTo, moved_output, DroppedBy}
+use Rattle.pattern.specs.Rows.{top, row, hung, rehung, second, inner, deep, free_two, room, live, fifteen, rooted, MovedTo, moved_output}
 use Rattle.pattern.specs.Tests.{joined}
 use Rattle.pattern.specs.declared.row.Row.{Row}
 use Rattle.pattern.specs.declared.row.Test.{Test}
-use Rattle.pattern.proofs.MergedRows.{Joins, pattern_cong, merged_array, least, none, up_within, up_apart, up_live, into_live}
+use Rattle.pattern.proofs.MergedRows.{Joins, pattern_cong, merged_array, least, none, up_within, up_live, into_live}
 use Rattle.pattern.proofs.Trees.{sift_cong, in_rows, rows_in, height, tree_of, rooted_from}
 
 -- Z under W by the axis x

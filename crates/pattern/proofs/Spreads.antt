@@ -1,5 +1,5 @@
 -- Two new rows in the array and in the pattern.
-use Rattle.std.proofs.Common.{◌≡◌, ℕ, zero, suc, ◌+◌, ◌<◌, ◌≤◌, Bool, true, false, cond, eqb, ◌≢◌, ◌⊎◌, List, [], ◌∷◌, ◌++◌, length, get_or, set, sym, refl, ap, ◌∙◌, subst, ap₂, inl, inr, arith}
+use Rattle.std.proofs.Common.{◌≡◌, ℕ, zero, suc, ◌+◌, ◌<◌, ◌≤◌, Bool, true, false, cond, eqb, ◌≢◌, List, [], ◌∷◌, ◌++◌, length, set, sym, refl, ap, ◌∙◌, subst, ap₂, inl, inr, arith}
 use mathlib.Core.Path.{fun_ext}
 use Rattle.std.proofs.lemmas.List.{get_or-set_same, get_or-set_other, length-set}
 use Rattle.std.proofs.lemmas.Bool.{cases_eq, cases_Bool, eq-eqb, ne_eqb, both_ways, or_cases, or_left, or_right}
@@ -9,7 +9,7 @@ use Rattle.record.specs.declared.axis.Axis.TheVariants.{Wide}
 use Rattle.tally.specs.Semirings.{Semiring}
 use Rattle.ways.specs.Expanding.{Grown, opened, star}
 use Rattle.ways.specs.Merging.{Under}
-use Rattle.ways.specs.Ways.{upd, In, remove, Weighted, Tree}
+use Rattle.ways.specs.Ways.{upd, In, remove, Tree}
 use Rattle.ways.proofs.Merges.{tree_under}
 use Rattle.ways.proofs.Openings.{tree_opened}
 use Rattle.ways.proofs.RowLists.{in_stays}
@@ -21,7 +21,7 @@ use Rattle.pattern.specs.declared.row.Test.{Test}
 use Rattle.pattern.specs.declared.row.Test.TheVariants.{Star}
 use Rattle.pattern.proofs.MergedRows.{pattern_cong, least, none}
 use Rattle.pattern.proofs.Moved.{upd_id}
-use Rattle.pattern.proofs.Trees.{upto, upto_in, sift_cong, sift_drop, sift_apart, in_sift, sift_in, fifteen_in, in_fifteen, fifteen_apart, in_rows, rows_in, height, tree_of, rooted_from}
+use Rattle.pattern.proofs.Trees.{upto, upto_in, sift_cong, sift_drop, sift_apart, in_sift, sift_in, fifteen_in, in_fifteen, fifteen_apart, in_rows, tree_of, rooted_from}
 
 set_row : (rs : List Row) (k : ℕ) (r : Row) → k < length rs → row (set rs k r) ≡ upd (row rs) k r
 set_row rs k r l = fun_ext (λ i. elim (cases_eq i k) [

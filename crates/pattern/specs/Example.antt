@@ -1,5 +1,5 @@
 -- Ways in the record of eleven places, as the checker computes them. 1 is run, 2 bag, 3 ash, 4 dust, 5 salt.
-use Rattle.std.specs.Prelude.{◌≡◌, ℕ, true, false, List, [], ◌∷◌, ◌++◌, map, replicate}
+use Rattle.std.specs.Prelude.{◌≡◌, ℕ, true, false, List, [], ◌∷◌, map, replicate}
 use Rattle.std.specs.List.{range_with_len}
 use Rattle.record.specs.Example.{eleven}
 use Rattle.record.specs.declared.axis.Step.TheVariants.{Child, Descendant}

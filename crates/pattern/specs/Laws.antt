@@ -1,9 +1,9 @@
 -- What holds of the value of every pattern, in every semiring and every record.
-use Rattle.std.specs.Prelude.{◌≡◌, ℕ, ◌<◌, ◌≤◌, List, [], ◌∷◌, ◌++◌, length}
+use Rattle.std.specs.Prelude.{◌≡◌, ℕ, ◌≤◌, List, ◌++◌, length}
 use Rattle.record.specs.Records.{Record, depth_at}
 use Rattle.record.specs.declared.axis.Axis.TheVariants.{Itself}
 use Rattle.record.specs.declared.place.Place.{Place}
-use Rattle.tally.specs.Semirings.{Semiring, Carries, sum}
+use Rattle.tally.specs.Semirings.{Semiring, sum}
 use Rattle.tally.specs.Tallies.{yes_no_ring, count_ring, is_some, counted}
 use Rattle.ways.specs.Merging.{Under, merged}
 use Rattle.pattern.specs.Questions.{value_at, value_within, ways}

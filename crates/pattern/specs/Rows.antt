@@ -1,6 +1,5 @@
 -- Rows in an array of sixteen.
 use Rattle.std.specs.Prelude.{◌≡◌, ℕ, zero, suc, ◌+◌, Bool, true, false, cond, not, ◌&&◌, ◌||◌, List, [], ◌∷◌, Some, None, ◌==◌, nat_lt, slice_index_or, slice_set}
-use Rattle.record.specs.declared.axis.Step.{Step}
 use Rattle.record.specs.declared.axis.Step.TheVariants.{Child}
 use Rattle.record.specs.declared.axis.Reach.TheVariants.{DescendantOrSelf, AncestorOrSelf}
 use Rattle.record.specs.declared.axis.Axis.TheVariants.{Along, Against, Itself, Wide}

@@ -1,5 +1,5 @@
 -- What the changes of a pattern keep, in every semiring, in every record, with the output at every place.
-use Rattle.std.specs.Prelude.{◌≡◌, ℕ, ◌+◌, ◌<◌, ◌≤◌, true, cond, List, [], ◌∷◌, map, length, Some, None, Option, MatchOption, ◌==◌}
+use Rattle.std.specs.Prelude.{◌≡◌, ℕ, ◌+◌, true, cond, List, [], ◌∷◌, map, length, Some, None, Option, MatchOption, ◌==◌}
 use Rattle.record.specs.Moves.{table}
 use Rattle.record.specs.Records.{Record}
 use Rattle.record.specs.declared.axis.Step.{Step}

@@ -1,7 +1,6 @@
 -- What is done next with a pattern.
-use Rattle.std.specs.Prelude.{◌≡◌, ℕ, Bool, true, false, cond, ◌&&◌, ◌⊎◌, List, [], ◌∷◌, Some, None, Option, ◌==◌}
-use Rattle.record.specs.declared.axis.Step.{Step}
-use Rattle.record.specs.declared.axis.Step.TheVariants.{Child, Descendant, Next, FollowingSibling}
+use Rattle.std.specs.Prelude.{◌≡◌, ℕ, true, cond, ◌&&◌, ◌⊎◌, List, [], ◌∷◌, Some, None, Option, ◌==◌}
+use Rattle.record.specs.declared.axis.Step.TheVariants.{Descendant, FollowingSibling}
 use Rattle.record.specs.declared.axis.Reach.TheVariants.{DescendantOrSelf, AncestorOrSelf, Following, Preceding}
 use Rattle.record.specs.declared.axis.Axis.{Axis}
 use Rattle.record.specs.declared.axis.Axis.TheVariants.{Along, Against, Itself, Wide}

@@ -1,25 +1,21 @@
 -- Rewriting ends: with turns enough no row goes against a step.
-use Rattle.std.proofs.Common.{◌≡◌, ℕ, zero, suc, ◌+◌, ◌-◌, ◌*◌, ◌<◌, ◌≤◌, Bool, true, false, cond, eqb, leb, ◌≢◌, ◌⊎◌, List, [], ◌∷◌, ◌++◌, map, length, Decides, sym, refl, ap, ◌∙◌, subst, ap₂, inl, inr, mul-le-mul_right, arith}
-use Rattle.record.specs.Axes.{leads, reaches, holds, or_self, following, following_sibling, descendant}
-use Rattle.record.specs.Moves.{table, move_holds, bit, count}
+use Rattle.std.proofs.Common.{◌≡◌, ℕ, zero, suc, ◌+◌, ◌*◌, ◌<◌, ◌≤◌, true, ◌≢◌, List, [], ◌∷◌, ◌++◌, length, sym, refl, ap, ◌∙◌, subst, inl, inr, mul-le-mul_right, arith}
+use Rattle.record.specs.Moves.{table}
 use Rattle.record.specs.declared.axis.Step.{Step}
-use Rattle.record.specs.declared.axis.Step.TheVariants.{Child, Descendant, Next, FollowingSibling}
-use Rattle.record.specs.declared.axis.Reach.{Reach}
-use Rattle.record.specs.declared.axis.Reach.TheVariants.{DescendantOrSelf, AncestorOrSelf, Following, Preceding}
 use Rattle.record.specs.declared.axis.Axis.{Axis}
 use Rattle.record.specs.declared.axis.Axis.TheVariants.{Along, Against, Itself, Wide}
 use Rattle.record.specs.declared.rules.Move.{Move}
 use Rattle.record.specs.declared.rules.Move.TheVariants.{Up, Join, Between}
-use Rattle.tally.specs.Semirings.{Semiring, bracket, sum, total, product}
-use Rattle.ways.specs.Merging.{Hung, Under, axed, merged}
-use Rattle.ways.specs.Ways.{upd, In, Apart, remove, Weighted, all_rows, link, is_way, sum_rows, gains, value, Tree, weighted}
-use Rattle.std.proofs.lemmas.Bool.{cases_eq, cases_lt, cases_order, eq-eqb, ne_eqb, false≢true}
+use Rattle.tally.specs.Semirings.{Semiring}
+use Rattle.ways.specs.Merging.{axed, merged}
+use Rattle.ways.specs.Ways.{upd, In, remove, Weighted, Tree}
+use Rattle.std.proofs.lemmas.Bool.{cases_eq, false≢true}
 use Rattle.std.proofs.lemmas.Bool.Decides.{nat_tests}
 use Rattle.ways.proofs.RowLists.{in_sub, by_head}
 use Rattle.ways.proofs.RowSums.{upd_same, upd_other}
 use Rattle.ways.specs.Expanding.{plain}
 use Rattle.ways.specs.Rewriting.{moved, Todo, Done, Dropped, At, todo_of, concat_map, turn, rewriting, NoneBack, Every}
-use Rattle.ways.proofs.Whole.{ranked, FindView, todo_view, Tag, tree_kept, rank_Y, Y_Z}
+use Rattle.ways.proofs.Whole.{ranked, FindView, todo_view, tree_kept, rank_Y, Y_Z}
 
 abbrev heavy : Axis → ℕ → ℕ
 heavy (Along s) m = 0

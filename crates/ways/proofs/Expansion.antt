@@ -1,25 +1,20 @@
 -- Expansion as a whole keeps the value, and ends.
-use Rattle.std.proofs.Common.{◌≡◌, ℕ, zero, suc, ◌+◌, ◌-◌, ◌*◌, ◌<◌, ◌≤◌, Bool, true, false, cond, eqb, leb, ◌≢◌, ◌⊎◌, List, [], ◌∷◌, ◌++◌, map, length, Decides, sym, refl, ap, ◌∙◌, subst, ap₂, inl, inr, arith}
-use Rattle.record.specs.Axes.{leads, reaches, holds, or_self, following, following_sibling, descendant}
-use Rattle.record.specs.Moves.{table, move_holds, bit, count}
-use Rattle.record.specs.declared.axis.Step.{Step}
-use Rattle.record.specs.declared.axis.Step.TheVariants.{Child, Descendant, Next, FollowingSibling}
+use Rattle.std.proofs.Common.{◌≡◌, ℕ, zero, suc, ◌+◌, ◌<◌, ◌≤◌, true, ◌≢◌, ◌⊎◌, List, [], ◌∷◌, ◌++◌, map, sym, refl, ap, ◌∙◌, subst, ap₂, inl, inr, arith}
+use Rattle.record.specs.declared.axis.Step.TheVariants.{Descendant, FollowingSibling}
 use Rattle.record.specs.declared.axis.Reach.{Reach}
 use Rattle.record.specs.declared.axis.Reach.TheVariants.{DescendantOrSelf, AncestorOrSelf, Following, Preceding}
 use Rattle.record.specs.declared.axis.Axis.{Axis}
 use Rattle.record.specs.declared.axis.Axis.TheVariants.{Along, Against, Itself, Wide}
-use Rattle.record.specs.declared.rules.Move.{Move}
-use Rattle.record.specs.declared.rules.Move.TheVariants.{Up, Join, Between}
-use Rattle.tally.specs.Semirings.{Semiring, bracket, sum, total, product}
-use Rattle.ways.specs.Merging.{Hung, Under, axed, merged}
-use Rattle.ways.specs.Ways.{upd, In, Apart, remove, Weighted, all_rows, link, is_way, sum_rows, gains, value, Tree, weighted}
-use Rattle.std.proofs.lemmas.Bool.{cases_eq, eq-eqb, ne_eqb, false≢true}
+use Rattle.tally.specs.Semirings.{Semiring, total}
+use Rattle.ways.specs.Merging.{axed, merged}
+use Rattle.ways.specs.Ways.{upd, In, Apart, remove, Weighted, value, Tree}
+use Rattle.std.proofs.lemmas.Bool.{cases_eq}
 use Rattle.ways.proofs.Merges.{merge_kept, tree_under, tree_axed, tree_merged}
 use Rattle.ways.proofs.RowLists.{remove_here, remove_other, in_sub, not_in}
 use Rattle.ways.proofs.RowSums.{upd_same, upd_other}
 use Rattle.ways.specs.Expanding.{Grown, opened, Task, Settled, ToMerge, ToSplit, ToOpen, wants, task_in, expand_turn, expanding, plain, Plain}
 use Rattle.ways.specs.Rewriting.{Every}
-use Rattle.ways.proofs.Ends.{lsum, lsum_le, lsum_lt, lsum_remove, lsum_bound, every_append}
+use Rattle.ways.proofs.Ends.{lsum, lsum_le, lsum_lt, lsum_remove, every_append}
 use Rattle.ways.proofs.Openings.{below_kept, above_kept, following_kept, preceding_kept, tree_opened}
 use Rattle.ways.proofs.Whole.{total_append, map_append}
 

@@ -1,17 +1,16 @@
 -- Merging a row that stands where its up-row does keeps the value.
-use Rattle.std.proofs.Common.{◌≡◌, ℕ, zero, suc, ◌<◌, ◌≤◌, Bool, true, false, cond, ◌&&◌, eqb, ◌≢◌, ◌⊎◌, List, [], ◌∷◌, sym, refl, ap, ◌∙◌, subst, ap₂, inl, inr, arith}
-use mathlib.Core.Path.{fun_ext}
+use Rattle.std.proofs.Common.{◌≡◌, ℕ, ◌<◌, Bool, cond, ◌&&◌, eqb, ◌≢◌, ◌∷◌, sym, refl, ap, ◌∙◌, subst, ap₂, inl, inr, arith}
 use Rattle.std.proofs.lemmas.Bool.{cases_eq, eq-eqb, ne_eqb}
 use Rattle.std.proofs.lemmas.Bool.Decides.{nat_tests}
 use Rattle.record.specs.Axes.{holds}
 use Rattle.record.specs.declared.axis.Axis.{Axis}
 use Rattle.record.specs.declared.axis.Axis.TheVariants.{Itself}
-use Rattle.tally.specs.Semirings.{Semiring, bracket, sum, total, product}
-use Rattle.tally.proofs.Sums.{nought_plus, one_times, nought_times, sum_cong, sum_pick, bracket_and}
+use Rattle.tally.specs.Semirings.{Semiring, bracket, sum, product}
+use Rattle.tally.proofs.Sums.{nought_times, sum_cong, sum_pick, bracket_and}
 use Rattle.ways.specs.Merging.{Hung, Under, axed, merged}
-use Rattle.ways.specs.Ways.{upd, In, Apart, remove, Weighted, all_rows, link, is_way, sum_rows, gains, value, Tree, weighted}
+use Rattle.ways.specs.Ways.{upd, In, Apart, remove, Weighted, all_rows, link, is_way, gains, value, Tree, weighted}
 use Rattle.ways.proofs.RowLists.{in_sub, in_stays, not_in, apart_remove, all_cong, all_remove, product_cong, product_remove, product_grow, times_left_comm}
-use Rattle.ways.proofs.RowSums.{upd_same, upd_other, upd_comm, sum_rows_cong, sum_rows_plus, sum_rows_nought, pull}
+use Rattle.ways.proofs.RowSums.{upd_same, upd_other, sum_rows_cong, sum_rows_plus, sum_rows_nought, pull}
 
 module _ {T : Type 0} (S : Semiring T) where
   -- [h and r] g = [h] ([r] g)

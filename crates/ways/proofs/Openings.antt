@@ -1,25 +1,20 @@
 -- Rows by an or_self axis, by following and by preceding are replaced, and the value stays.
-use Rattle.std.proofs.Common.{◌≡◌, ℕ, zero, suc, ◌+◌, ◌-◌, ◌*◌, ◌<◌, ◌≤◌, Bool, true, false, cond, not, ◌&&◌, eqb, leb, ◌≢◌, ◌⊎◌, List, [], ◌∷◌, ◌++◌, map, Decides, sym, refl, ap, ◌∙◌, subst, ap₂, inl, inr, arith}
+use Rattle.std.proofs.Common.{◌≡◌, ℕ, suc, ◌+◌, ◌*◌, ◌<◌, ◌≤◌, Bool, true, false, not, ◌&&◌, eqb, ◌≢◌, ◌⊎◌, List, [], ◌∷◌, sym, refl, ap, ◌∙◌, subst, ap₂, inl, inr, arith}
 use mathlib.Core.Path.{fun_ext}
-use Rattle.record.specs.Axes.{leads, reaches, holds, or_self, following, following_sibling, descendant}
-use Rattle.record.specs.Moves.{table, move_holds, bit, count}
-use Rattle.record.specs.declared.axis.Step.{Step}
-use Rattle.record.specs.declared.axis.Step.TheVariants.{Child, Descendant, Next, FollowingSibling}
-use Rattle.record.specs.declared.axis.Reach.{Reach}
+use Rattle.record.specs.Axes.{leads, reaches, holds, or_self, following_sibling, descendant}
+use Rattle.record.specs.declared.axis.Step.TheVariants.{Descendant, FollowingSibling}
 use Rattle.record.specs.declared.axis.Reach.TheVariants.{DescendantOrSelf, AncestorOrSelf, Following, Preceding}
 use Rattle.record.specs.declared.axis.Axis.{Axis}
 use Rattle.record.specs.declared.axis.Axis.TheVariants.{Along, Against, Itself, Wide}
-use Rattle.record.specs.declared.rules.Move.{Move}
-use Rattle.record.specs.declared.rules.Move.TheVariants.{Up, Join, Between}
 use Rattle.tally.specs.Semirings.{Semiring, bracket, sum, total, product}
-use Rattle.ways.specs.Merging.{Hung, Under, axed, merged}
-use Rattle.ways.specs.Ways.{upd, In, Apart, remove, Weighted, all_rows, link, is_way, sum_rows, gains, value, Tree, weighted}
+use Rattle.ways.specs.Merging.{Under, axed, merged}
+use Rattle.ways.specs.Ways.{upd, In, remove, Weighted, all_rows, link, is_way, sum_rows, gains, value, Tree, weighted}
 use Rattle.std.proofs.lemmas.Bool.{cases_eq, cases_Bool, eq-eqb, ne_eqb, and_parts}
-use Rattle.std.proofs.lemmas.Bool.Decides.{Decides-eqb, nat_tests}
-use Rattle.record.proofs.Intervals.{DescR, FollR, descendant_decides, following_decides}
+use Rattle.std.proofs.lemmas.Bool.Decides.{Decides-eqb}
+use Rattle.record.proofs.Intervals.{descendant_decides, following_decides}
 use Rattle.record.proofs.Pairs.{or_self_decides}
 use Rattle.record.proofs.Pointwise.{exact2}
-use Rattle.tally.proofs.Sums.{one_times, nought_plus, nought_times, sum_cong, sum_swap, sum_times, bracket_and, bracket_on, bracket_off}
+use Rattle.tally.proofs.Sums.{one_times, nought_times, sum_cong, sum_swap, sum_times, bracket_on, bracket_off}
 use Rattle.ways.proofs.Merges.{at_other, apart_factor, rest, left_Z, way_rest, split_kept, axed_merged}
 use Rattle.ways.proofs.RowLists.{remove_other, in_sub, in_stays, not_in, apart_remove, all_cong, all_remove, product_cong, product_remove, times_left_comm}
 use Rattle.ways.proofs.RowSums.{upd_same, upd_other, upd_comm, sum_rows_cong, pull}

@@ -1,8 +1,7 @@
 -- A place follows another over one pair of siblings, as an equation of sums.
-use Rattle.std.proofs.Common.{◌≡◌, ℕ, suc, ◌<◌, ◌≤◌, Bool, true, false, ◌&&◌, ◌≢◌, Decides, sym, ◌∙◌, inl, inr, arith}
+use Rattle.std.proofs.Common.{◌≡◌, ℕ, suc, ◌<◌, ◌≤◌, Bool, ◌&&◌, Decides, sym, ◌∙◌, inl, inr, arith}
 use Rattle.std.proofs.lemmas.Bool.{cases_Bool, and_parts, and_from, both_ways}
 use Rattle.record.specs.Axes.{or_self, following, following_sibling}
-use Rattle.record.specs.Laws.{Pair}
 use Rattle.record.proofs.Pairs.{Way, way_later, way_unique, way_from_pair, pair_from_way, way_from_following, following_from_way}
 use Rattle.tally.specs.Semirings.{Semiring, bracket, sum}
 use Rattle.tally.proofs.Sums.{sum_cong, sum_nought, only, bracket_on, bracket_off}

@@ -1,7 +1,6 @@
 -- The laws, of the places of a record.
-use Rattle.std.proofs.Common.{ℕ, ◌<◌, ◌≤◌, List, length, arith}
-use Rattle.record.specs.Records.{Record, depth_at}
-use Rattle.record.specs.declared.place.Place.{Place}
+use Rattle.std.proofs.Common.{length, arith}
+use Rattle.record.specs.Records.{depth_at}
 use Rattle.record.proofs.Proved.{root_depth, all_steps, all_nested}
 use Rattle.tally.specs.Semirings.{Semiring}
 use Rattle.ways.specs.Laws.{ChangeLaws, ExpansionLaws, RewritingLaws}

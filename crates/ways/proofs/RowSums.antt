@@ -1,8 +1,8 @@
 -- Sums over the places of several rows.
-use Rattle.std.proofs.Common.{◌≡◌, ℕ, zero, suc, ◌<◌, ◌≤◌, Bool, true, false, cond, ◌&&◌, eqb, ◌≢◌, ◌⊎◌, List, [], ◌∷◌, map, sym, refl, ap, ◌∙◌, ap₂, inl, inr, arith}
+use Rattle.std.proofs.Common.{◌≡◌, ℕ, ◌<◌, ◌≢◌, List, [], ◌∷◌, map, sym, refl, ap, ◌∙◌, inl, inr}
 use mathlib.Core.Path.{fun_ext}
 use Rattle.std.proofs.lemmas.Bool.{cases_eq, eq-eqb, ne_eqb}
-use Rattle.tally.specs.Semirings.{Semiring, bracket, sum, total, product}
+use Rattle.tally.specs.Semirings.{Semiring, sum, total}
 use Rattle.tally.proofs.Sums.{sum_cong, sum_nought, sum_plus, sum_swap}
 use Rattle.ways.specs.Ways.{upd, In, Apart, remove, sum_rows}
 

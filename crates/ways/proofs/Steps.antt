@@ -1,18 +1,15 @@
 -- One move of the table keeps the value.
-use Rattle.std.proofs.Common.{◌≡◌, ℕ, zero, suc, ◌+◌, ◌-◌, ◌*◌, ◌<◌, ◌≤◌, Bool, true, false, cond, ◌&&◌, ◌||◌, eqb, leb, ◌≢◌, ◌⊎◌, List, [], ◌∷◌, ◌++◌, map, Decides, sym, refl, ap, ◌∙◌, subst, ap₂, inl, inr, arith}
-use Rattle.record.specs.Axes.{leads, reaches, holds, or_self, following, following_sibling, descendant}
+use Rattle.std.proofs.Common.{◌≡◌, ℕ, suc, ◌<◌, ◌≤◌, Bool, true, false, cond, ◌&&◌, ◌||◌, eqb, ◌≢◌, List, [], ◌∷◌, map, sym, refl, ap, ◌∙◌, subst, ap₂, inl, inr, arith}
+use Rattle.record.specs.Axes.{leads, holds}
 use Rattle.record.specs.Moves.{table, move_holds, bit, count}
 use Rattle.record.specs.declared.axis.Step.{Step}
-use Rattle.record.specs.declared.axis.Step.TheVariants.{Child, Descendant, Next, FollowingSibling}
-use Rattle.record.specs.declared.axis.Reach.{Reach}
-use Rattle.record.specs.declared.axis.Reach.TheVariants.{DescendantOrSelf, AncestorOrSelf, Following, Preceding}
 use Rattle.record.specs.declared.axis.Axis.{Axis}
-use Rattle.record.specs.declared.axis.Axis.TheVariants.{Along, Against, Itself, Wide}
+use Rattle.record.specs.declared.axis.Axis.TheVariants.{Along, Itself}
 use Rattle.record.specs.declared.rules.Move.{Move}
 use Rattle.record.specs.declared.rules.Move.TheVariants.{Up, Join, Between}
-use Rattle.tally.specs.Semirings.{Semiring, bracket, sum, total, product}
-use Rattle.ways.specs.Merging.{Hung, Under, axed, merged}
-use Rattle.ways.specs.Ways.{upd, In, Apart, remove, Weighted, all_rows, link, is_way, sum_rows, gains, value, Tree, weighted}
+use Rattle.tally.specs.Semirings.{Semiring, bracket, total}
+use Rattle.ways.specs.Merging.{Under, axed, merged}
+use Rattle.ways.specs.Ways.{upd, In, remove, Weighted, all_rows, link, is_way, gains, value}
 use Rattle.std.proofs.lemmas.Bool.{cases_eq, eq-eqb, ne_eqb, eqb-true, and_parts, and_from, or_cases, or_right}
 use Rattle.std.proofs.lemmas.Bool.Decides.{same_from_decides}
 use Rattle.record.proofs.Pointwise.{pointwise}

@@ -1,25 +1,23 @@
 -- Rewriting as a whole keeps the value.
-use Rattle.std.proofs.Common.{◌≡◌, ℕ, zero, suc, ◌+◌, ◌-◌, ◌*◌, ◌<◌, ◌≤◌, Bool, true, false, cond, eqb, leb, ◌≢◌, ◌⊎◌, List, [], ◌∷◌, ◌++◌, map, Decides, sym, refl, ap, ◌∙◌, subst, ap₂, inl, inr, arith}
-use Rattle.record.specs.Axes.{leads, reaches, holds, or_self, following, following_sibling, descendant}
-use Rattle.record.specs.Moves.{table, move_holds, bit, count}
+use Rattle.std.proofs.Common.{◌≡◌, ℕ, zero, suc, ◌<◌, ◌≤◌, Bool, true, false, cond, eqb, leb, ◌≢◌, List, [], ◌∷◌, ◌++◌, map, sym, refl, ap, ◌∙◌, subst, inl, inr, arith}
+use Rattle.record.specs.Axes.{holds}
+use Rattle.record.specs.Moves.{table}
 use Rattle.record.specs.declared.axis.Step.{Step}
 use Rattle.record.specs.declared.axis.Step.TheVariants.{Child, Descendant, Next, FollowingSibling}
-use Rattle.record.specs.declared.axis.Reach.{Reach}
-use Rattle.record.specs.declared.axis.Reach.TheVariants.{DescendantOrSelf, AncestorOrSelf, Following, Preceding}
 use Rattle.record.specs.declared.axis.Axis.{Axis}
 use Rattle.record.specs.declared.axis.Axis.TheVariants.{Along, Against, Itself, Wide}
 use Rattle.record.specs.declared.rules.Move.{Move}
 use Rattle.record.specs.declared.rules.Move.TheVariants.{Up, Join, Between}
-use Rattle.tally.specs.Semirings.{Semiring, bracket, sum, total, product}
-use Rattle.ways.specs.Merging.{Hung, Under, axed, merged}
-use Rattle.ways.specs.Ways.{upd, In, Apart, remove, Weighted, all_rows, link, is_way, sum_rows, gains, value, Tree, weighted}
-use Rattle.std.proofs.lemmas.Bool.{cases_eq, cases_lt, cases_order, eq-eqb, ne_eqb, eqb-true, eqb-false, cases_Bool, false≢true, or_cases, and_parts}
+use Rattle.tally.specs.Semirings.{Semiring, bracket, total}
+use Rattle.ways.specs.Merging.{axed, merged}
+use Rattle.ways.specs.Ways.{upd, In, remove, Weighted, link, is_way, sum_rows, gains, value, Tree}
+use Rattle.std.proofs.lemmas.Bool.{cases_eq, eq-eqb, ne_eqb, eqb-true, eqb-false, cases_Bool, false≢true, or_cases, and_parts}
 use Rattle.std.proofs.lemmas.Bool.Decides.{nat_tests}
 use Rattle.record.proofs.Pointwise.{Leads, leads_decides}
 use Rattle.tally.proofs.Sums.{sum_cong, nought_plus, nought_times}
 use Rattle.ways.proofs.Merges.{tree_hung}
-use Rattle.ways.proofs.RowLists.{in_sub, in_stays, not_in, apart_remove, all_decides}
-use Rattle.ways.proofs.RowSums.{upd_same, upd_other, sum_rows_nought}
+use Rattle.ways.proofs.RowLists.{in_sub, in_stays, apart_remove, all_decides}
+use Rattle.ways.proofs.RowSums.{upd_other, sum_rows_nought}
 use Rattle.ways.specs.Rewriting.{moved, Spot, Todo, Done, Dropped, At, strays, stray_in, judge, find_in, todo_of, concat_map, turn, rewriting}
 use Rattle.ways.proofs.Steps.{in_upd, total_cong, step}
 

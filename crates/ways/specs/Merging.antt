@@ -1,5 +1,5 @@
 -- Merging a row into its up-row, on patterns with gains.
-use Rattle.std.specs.Prelude.{◌≡◌, ℕ, cond, ◌≢◌, List, [], ◌∷◌, ◌==◌}
+use Rattle.std.specs.Prelude.{◌≡◌, ℕ, cond, ◌≢◌, ◌∷◌, ◌==◌}
 use Rattle.record.specs.declared.axis.Axis.{Axis}
 use Rattle.tally.specs.Semirings.{Semiring}
 use Rattle.ways.specs.Ways.{upd, In, Apart, remove, Weighted}

@@ -1,5 +1,5 @@
 -- Ways of a pattern over a record, and what they come to in a semiring. D is the depths of the record's n places.
-use Rattle.std.specs.Prelude.{◌≡◌, ℕ, ◌<◌, Bool, true, false, cond, ◌&&◌, ◌⊎◌, List, [], ◌∷◌, ◌==◌}
+use Rattle.std.specs.Prelude.{◌≡◌, ℕ, ◌<◌, Bool, true, cond, ◌&&◌, ◌⊎◌, List, [], ◌∷◌, ◌==◌}
 use Rattle.record.specs.Axes.{holds}
 use Rattle.record.specs.declared.axis.Axis.{Axis}
 use Rattle.tally.specs.Semirings.{Semiring, bracket, sum, product}

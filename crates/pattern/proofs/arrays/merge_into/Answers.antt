@@ -1,4 +1,4 @@
-use Rattle.std.proofs.Common.{sym, arith, rules}
+use Rattle.std.proofs.Common.{sym, arith}
 use Rattle.pattern.proofs.MergedRows.{made}
 use Rattle.pattern.proofs.arrays.merge_into.Goals as goal
 

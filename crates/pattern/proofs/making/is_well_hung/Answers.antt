@@ -1,4 +1,4 @@
-use Rattle.std.proofs.Common.{ℕ, Bool, not, ◌||◌, sym, ap, ◌∙◌}
+use Rattle.std.proofs.Common.{Bool, not, ◌||◌, sym, ap, ◌∙◌}
 use Rattle.std.proofs.lemmas.Bool.{or_left}
 use Rattle.pattern.specs.Rows.{row, climbs, well_hung}
 use Rattle.pattern.specs.declared.row.Row.{Row}

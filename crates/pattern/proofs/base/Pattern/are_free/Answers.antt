@@ -1,6 +1,6 @@
-use Rattle.std.proofs.Common.{sym, refl, arith}
+use Rattle.std.proofs.Common.{sym, refl}
 use Rattle.std.proofs.lemmas.Bool.{eq-eqb, ne_eqb, lt-ltb, le-ltb, and_left, and_right}
-use Rattle.pattern.specs.Rows.{row, free_two}
+use Rattle.pattern.specs.Rows.{free_two}
 use Rattle.pattern.proofs.base.Pattern.are_free.Goals as goal
 
 pub returns-then-n-eq0 : goal.returns-then-n-eq0

@@ -1,4 +1,4 @@
-use Rattle.std.proofs.Common.{Bool, ◌&&◌, sym, ap, ◌∙◌}
+use Rattle.std.proofs.Common.{Bool, ◌&&◌, ap, ◌∙◌}
 use Rattle.pattern.specs.Rows.{free_two, room}
 use Rattle.pattern.proofs.base.Pattern.has_room.Goals as goal
 

@@ -1,7 +1,7 @@
-use Rattle.std.proofs.Common.{◌≡◌, false, ap, ◌∙◌, arith}
+use Rattle.std.proofs.Common.{ap, arith}
 use Rattle.std.proofs.lemmas.List.{get_or_past}
 use Rattle.std.proofs.lemmas.Bool.{and_left, and_right, and_from, eq-eqb, ne_eqb, not_from_true, not_from_false}
-use Rattle.pattern.specs.Rows.{inner, top, row}
+use Rattle.pattern.specs.Rows.{inner, top}
 use Rattle.pattern.specs.declared.row.Row.{Row}
 use Rattle.pattern.proofs.KeptWays.{merged_ways}
 use Rattle.pattern.proofs.base.Pattern.merge.Goals as goal
