@@ -7,14 +7,13 @@ use Rattle.record.specs.declared.axis.Axis.{Axis}
 use Rattle.record.specs.declared.axis.Axis.TheVariants.{Along}
 use Rattle.record.specs.declared.rules.Move.{Move}
 use Rattle.record.specs.declared.rules.Move.TheVariants.{Up, Join, Between}
-use Rattle.pattern.specs.Rows.{row, inner, deep, room, live, rooted, root_alone, hung, second, rehung, spread, merged_row, MergedInto, MovedTo, moved_output, DroppedBy}
+use Rattle.pattern.specs.Rows.{row, inner, deep, room, live, rooted, hung, second, rehung, spread, merged_row, MergedInto, MovedTo, moved_output, DroppedBy}
 use Rattle.pattern.specs.Tests.{joined}
 use Rattle.pattern.specs.declared.base.Pattern.{Pattern}
 use Rattle.pattern.specs.declared.row.Row.{Row}
 use Rattle.pattern.specs.declared.row.Test.{Test}
 use Rattle.pattern.proofs.MergedRows.{up_apart, up_live, merged_rooted, into_live}
 use Rattle.pattern.proofs.Moved.{hung_test, hung_live, y_high, w_high, inner_parts, deep_parts, room_parts, moved_rooted, moved_live, axed_rooted}
-use Rattle.pattern.proofs.Roots.{rehung_root, merged_up_root, moved_root, spread_root}
 use Rattle.pattern.proofs.Spreads.{spread_rooted, spread_live}
 use Rattle.all_ends.specs.Ends.{Shape, shape_of, shaped, merged_shape, merge_into, by_move}
 use Rattle.all_ends.proofs.Shapes.{list_merged}
@@ -24,13 +23,12 @@ pub record Good (s : Shape) : Type 0 where
   pub whole : length s.rows ≡ 16
   pub ok : rooted s.rows ≡ true
   pub shown : live s.rows s.output ≡ true
-  pub tests : root_alone s.rows ≡ true
 
 pub good_pattern : (P : Pattern) → Good (shape_of P)
-good_pattern P = record { whole = P.whole; ok = P.ok; shown = P.shown; tests = P.tests }
+good_pattern P = record { whole = P.whole; ok = P.ok; shown = P.shown }
 
 abbrev pub pattern_with : (s : Shape) → Good s → Pattern
-pattern_with s g = record { rows = s.rows; output = s.output; ok = g.ok; shown = g.shown; whole = g.whole; tests = g.tests }
+pattern_with s g = record { rows = s.rows; output = s.output; ok = g.ok; shown = g.shown; whole = g.whole }
 
 -- what a merge gives
 abbrev pub MergeKnown : Shape → ℕ → ℕ → Option Shape → Type 0
@@ -82,7 +80,6 @@ module _ (s : Shape) (g : Good s) (z : ℕ) where
         whole = l;
         ok = merged_rooted rs le g.ok z low high used q.rows m;
         shown = subst (λ x. live q.rows x ≡ true) (sym o) (into_live rs q.rows z (row rs z).up m (up_apart rs le g.ok z low high used) (up_live rs le g.ok z low high used) s.output g.shown);
-        tests = merged_up_root rs g.whole g.ok z low high used g.tests q.rows m;
       }
 
   pub moved_good : deep rs z ≡ true → (m : Move) (q : Shape) → MovedTo rs z m q.rows × (q.output ≡ moved_output rs z m s.output) × (length q.rows ≡ 16) → Good q
@@ -92,7 +89,6 @@ module _ (s : Shape) (g : Good s) (z : ℕ) where
         whole = l;
         ok = moved_rooted rs g.whole g.ok z low high used below m q.rows h;
         shown = subst (λ x. live q.rows x ≡ true) (sym o) (moved_live rs g.whole g.ok z low high used below m q.rows h s.output g.shown);
-        tests = moved_root rs g.whole g.ok z low high used g.tests below m q.rows h;
       }
 
   pub axed_good : inner rs z ≡ true → (x : Axis) → Good (shaped (rehung rs z (row rs z).up x) s.output)
@@ -102,7 +98,6 @@ module _ (s : Shape) (g : Good s) (z : ℕ) where
         whole = rehung_length z (row rs z).up x;
         ok = axed_rooted rs z x g.whole high g.ok;
         shown = hung_live rs z (row rs z).up x (let w = g.whole in omega arith) s.output ∙ g.shown;
-        tests = rehung_root rs z (row rs z).up x (let w = g.whole in omega arith) g.tests;
       }
 
   pub opened_good : (n : ℕ) → room rs z n ≡ true → (x : Axis) → Good (shaped (spread rs z n (n + 1) x) s.output)
@@ -113,5 +108,4 @@ module _ (s : Shape) (g : Good s) (z : ℕ) where
         whole = simp length-set g.whole;
         ok = spread_rooted rs g.whole z n (n + 1) x high first (omega arith) (omega arith) (omega arith) (omega arith) used free spare g.ok low;
         shown = spread_live rs g.whole z n (n + 1) x high first (omega arith) (omega arith) (omega arith) (omega arith) used free spare s.output g.shown;
-        tests = spread_root rs g.whole g.ok z low high used g.tests n (n + 1) x first (omega arith) (omega arith) (omega arith) (omega arith) free spare;
       }

@@ -159,10 +159,9 @@ pub turns_done : (s : Shape) (z : ℕ) (ms : List Move) (i : ℕ) → length ms 
 turns_done s z ms i l a b g = subst (λ x. Grown a (by_moves s z x) b) (take_all i ms l) g
 
 -- an end that is kept
-pub kept_end : (P : Pattern) (o : Option Forward) → all_along P.rows ≡ true → path_rows P.rows P.output ≤ 15 → MatchOption o ((all_along P.rows ≡ false) ⊎ (15 < path_rows P.rows P.output)) (λ f. f.pattern ≡ P) → option_map forward_shape o ≡ Some (shape_of P)
-kept_end P None t l (inl h) = absurd (both_ways _ h t)
-kept_end P None t l (inr h) = absurd (omega arith)
-kept_end P (Some f) t l h = ap {B = Option Shape} (λ Q. Some (shape_of Q)) h
+pub kept_end : (P : Pattern) (o : Option Forward) → all_along P.rows ≡ true → MatchOption o (all_along P.rows ≡ false) (λ f. f.pattern ≡ P) → option_map forward_shape o ≡ Some (shape_of P)
+kept_end P None t h = absurd (both_ways _ h t)
+kept_end P (Some f) t h = ap {B = Option Shape} (λ Q. Some (shape_of Q)) h
 
 -- the exit of a `?`
 pub failed : (a b : Ends) (es : List (Option Shape)) (r : Result (Unit {0}) Refusal) (x y : Refusal) → r ≡ Err x → x ≡ y → Reached a es (Err y) b → Reached a es r b

@@ -20,7 +20,6 @@ use Rattle.pattern.proofs.Moved.{inner_parts, deep_parts, room_parts, y_high, y_
 use Rattle.pattern.proofs.Trees.{in_fifteen}
 use Rattle.all_ends.specs.Ends.{Shape, shaped, merge_into, merge_at, axis_at, next_number, open_at, by_move, move_at, alternatives, to_open, expanded_rows, fits, Short, ShortRest}
 use Rattle.rewrite.specs.Turns.{first_some, expansion_by, want_at, first_want, turn_of}
-use Rattle.rewrite.specs.declared.turns.Phase.TheVariants.{Expanding, Straying}
 use Rattle.rewrite.specs.declared.turns.Turn.{Turn}
 use Rattle.rewrite.specs.declared.turns.Turn.TheVariants.{Kept, Dropped, Merge, Split, Open, Shift}
 use Rattle.all_ends.proofs.Changed.{Good, pattern_with, MergeKnown, merge_known, MoveKnown, move_known}
@@ -28,7 +27,7 @@ use Rattle.all_ends.proofs.Changes.{used_only, rehung_weigh, merged_weigh, sprea
 use Rattle.all_ends.proofs.Counts.{weigh, weigh_cong, how_many_weigh}
 use Rattle.all_ends.proofs.Falling.{every_map, every_imp}
 use Rattle.all_ends.proofs.Rooms.{opening, openings, count_openings, bit_and}
-use Rattle.rewrite.proofs.Telling.{Seen, seen}
+use Rattle.rewrite.proofs.Telling.{Seen, seen, expansion_at, straying_at, first_expansion, first_straying}
 
 -- the two counts as sums over the rows in use
 abbrev one_each : Axis → ℕ
@@ -87,7 +86,7 @@ first_only f (k ∷ L) t h r i e = elim (h k) [
   | inr n ↦ rw (first_some, n) refl
 ]
 
-module _ (rs : List Row) (len : length rs ≡ 16) (z : ℕ) (low : 1 ≤ z) (high : z < 16) (used : (row rs z).used ≡ true) (settled : first_want rs Expanding ≡ None) (sZ : Step) (aZ : (row rs z).axis ≡ Against sZ) where
+module _ (rs : List Row) (len : length rs ≡ 16) (z : ℕ) (low : 1 ≤ z) (high : z < 16) (used : (row rs z).used ≡ true) (settled : first_expansion rs ≡ None) (sZ : Step) (aZ : (row rs z).axis ≡ Against sZ) where
   goes_astray : (w : ℕ) → w ≡ 0 → turn_of (rehung rs z w (row rs z).axis) ≡ Dropped
   goes_astray w e = rw (no_expansion, a_stray) refl
     where
@@ -100,17 +99,17 @@ module _ (rs : List Row) (len : length rs ≡ 16) (z : ℕ) (low : 1 ≤ z) (hig
       axes : (i : ℕ) → (row q i).axis ≡ (row rs i).axis
       axes i = hung_axis rs z w (row rs z).axis l i ∙ ap (λ f. f i) (upd_id (λ j. (row rs j).axis) z (row rs z).axis refl)
 
-      no_expansion : first_want q Expanding ≡ None
-      no_expansion = first_same (want_at q Expanding) (want_at rs Expanding) fifteen (λ i. ap₂ (λ u x. cond u (expansion_by i x) None) (hung_used rs z w (row rs z).axis l i) (axes i)) ∙ settled
+      no_expansion : first_expansion q ≡ None
+      no_expansion = first_same (expansion_at q) (expansion_at rs) fifteen (λ i. ap₂ (λ u x. cond u (expansion_by i x) None) (hung_used rs z w (row rs z).axis l i) (axes i)) ∙ settled
 
       stray_or : (b c : Bool) → (cond b (cond c (Some Dropped) None) None ≡ None) ⊎ (cond b (cond c (Some Dropped) None) None ≡ Some Dropped)
       stray_or true true = inr refl
       stray_or true false = inl refl
       stray_or false c = inl refl
 
-      a_stray : first_want q Straying ≡ Some Dropped
+      a_stray : first_straying q ≡ Some Dropped
       a_stray =
-          first_only (want_at q Straying) fifteen Dropped (λ i. stray_or (row q i).used (eqb (row q i).up 0 && strays (row q i).axis)) z (in_fifteen z low high)
+          first_only (straying_at q) fifteen Dropped (λ i. stray_or (row q i).used (eqb (row q i).up 0 && strays (row q i).axis)) z (in_fifteen z low high)
           (let u : (row q z).used ≡ true = hung_used rs z w (row rs z).axis l z ∙ used in
           let v : eqb (row q z).up 0 ≡ true = eq-eqb _ _ (hung_up rs z w (row rs z).axis l z ∙ upd_same (λ j. (row rs j).up) z w ∙ e) in
           let x : strays (row q z).axis ≡ true = ap strays (axes z ∙ aZ) in
@@ -177,7 +176,7 @@ module _ (s : Shape) (g : Good s) (z : ℕ) where
           let l = count_openings q in
           (omega arith, inl (omega arith))
 
-  module _ (d : deep rs z ≡ true) (sY sZ : Step) (aY : (row rs (row rs z).up).axis ≡ Along sY) (aZ : (row rs z).axis ≡ Against sZ) (settled : first_want rs Expanding ≡ None) where
+  module _ (d : deep rs z ≡ true) (sY sZ : Step) (aY : (row rs (row rs z).up).axis ≡ Along sY) (aZ : (row rs z).axis ≡ Against sZ) (settled : first_expansion rs ≡ None) where
     abbrev y : ℕ
     y = (row rs z).up
 

@@ -1,6 +1,6 @@
 -- A text that is cut into lines from its front.
 use Rattle.std.proofs.Common.{◌≡◌, ℕ, ◌+◌, ◌-◌, ◌<◌, ◌≤◌, List, [], ◌∷◌, ◌++◌, length, get_or, take, drop, sym, ap, ◌∙◌, subst, inl, inr, arith, Bor, rules}
-use Rattle.std.specs.List.{flat_map, AllByRecursion as All}
+use Rattle.std.specs.List.{flat_map, AllByRecursion}
 use Rattle.std.proofs.ByRecursion.{All-push}
 use Rattle.std.proofs.lemmas.List.{append_assoc, get_or-drop, get_or_push, get_or-take, flat_map_more, length-drop, length_push, length-take-le, map_push, same_lists, take_all, take-append-drop, take_more, places}
 use Rattle.std.proofs.lemmas.Bool.{cases_eq}
@@ -10,7 +10,7 @@ use Rattle.name_list.specs.Lists.{bytes_of}
 -- the lines before `start`, and no end of a line from there to i
 abbrev pub Split : List ℕ → List (List ℕ) → ℕ → ℕ → Type 0
 Split text lines start i =
-    (start ≤ i) × (flat_map ended lines ≡ take start text) × ((k : ℕ) → start ≤ k → k < i → get_or text k 0 ≡ 10 → ⊥) × All Plain lines
+    (start ≤ i) × (flat_map ended lines ≡ take start text) × ((k : ℕ) → start ≤ k → k < i → get_or text k 0 ≡ 10 → ⊥) × AllByRecursion Plain lines
 
 joined_push : (lines : List (List ℕ)) (line : List ℕ) → flat_map ended (lines ++ line ∷ []) ≡ flat_map ended lines ++ ended line
 joined_push lines line = sym (flat_map_more ended [] lines line)

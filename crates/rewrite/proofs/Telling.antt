@@ -55,6 +55,19 @@ quiet {A} f (s ∷ rs) e r i = go (f s) refl e (λ h j. quiet f rs h r j)
     go None k h again = elim i [ inl q ↦ ap f q ∙ k | inr j ↦ again h j ]
     go (Some t) k h again = absurd (subst (Is t) h refl)
 
+-- what a row asks in expansion and as one that leads nowhere, and the first row that asks it
+abbrev pub expansion_at : List Row → ℕ → Option Turn
+expansion_at rs = want_at rs Expanding
+
+abbrev pub straying_at : List Row → ℕ → Option Turn
+straying_at rs = want_at rs Straying
+
+abbrev pub first_expansion : List Row → Option Turn
+first_expansion rs = first_want rs Expanding
+
+abbrev pub first_straying : List Row → Option Turn
+first_straying rs = first_want rs Straying
+
 module _ (P : Pattern) where
   abbrev rs : List Row
   rs = P.rows

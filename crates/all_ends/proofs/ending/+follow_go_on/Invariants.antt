@@ -8,8 +8,8 @@ use Rattle.all_ends.proofs.ending.+follow_go_on.Given as goal
 abbrev pub decreases-follow : goal.decreases-follow
 decreases-follow l = 2 * turns_left l.pattern.rows + 1
 
-abbrev pub decreases-go-on : goal.decreases-go-on
-decreases-go-on l = left_of l.alternative
+abbrev pub decreases-go_on : goal.decreases-go_on
+decreases-go_on l = left_of l.alternative
 
 abbrev pub invariant-follow-loop-by : goal.invariant-follow-loop-by
 invariant-follow-loop-by l = Grown l.initial.ends (by_moves (shape_of l.pattern) l.z (take l.by-index l.by-items)) l.ends

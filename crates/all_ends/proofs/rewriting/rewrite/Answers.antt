@@ -14,27 +14,27 @@ loop-source-init c = finished_none c.args.sources.now c.none-ends.result c.none-
 pub follow-requires : goal.follow-requires
 follow-requires c =
     subst (λ (P : Pattern). Short (shape_of P)) (sym c.source-item.is)
-    (fits_short _ (fits_each c.args.sources.now (sym c.if-not-all-fit.ensures) c.loop-source.source-index c.source-item.result c.loop-source-test.true))
+    (fits_short _ (fits_each c.args.sources.now (sym c.if-not-all_fit.ensures) c.loop-source.source-index c.source-item.result c.loop-source-test.true))
 
-pub returns-in-err-follow : goal.returns-in-err-follow
-returns-in-err-follow c =
-    let p = err_from_is_err_and c.from-residual.result c.from-residual.ensures.1 in
+pub returns-in_err-follow : goal.returns-in_err-follow
+returns-in_err-follow c =
+    let p = err_from_is_err_and c.from_residual.result c.from_residual.ensures.1 in
     record {
-      exact = outcome_fails c.args.sources.now _ _ _ (sym c.if-not-all-fit.ensures) p.1 p.2
+      exact = outcome_fails c.args.sources.now _ _ _ (sym c.if-not-all_fit.ensures) p.1 p.2
           (finished_fails c.args.sources.now c.loop-source.source-index c.source-item.result c.loop-source-test.true c.loop-source.ends c.follow.new.ends _ c.loop-source.invariant
-          (subst (λ (P : Pattern). Reached c.loop-source.ends (ends_of (shape_of P)) (Err c.in-err-follow.field-0.0) c.follow.new.ends) c.source-item.is c.in-err-follow.ensures));
+          (subst (λ (P : Pattern). Reached c.loop-source.ends (ends_of (shape_of P)) (Err c.in_err-follow.field-0.0) c.follow.new.ends) c.source-item.is c.in_err-follow.ensures));
       faithful = none_made _ _ _ p.1;
     }
 
 pub loop-source-preserved : goal.loop-source-preserved
 loop-source-preserved c =
     finished_more c.args.sources.now c.loop-source.source-index c.source-item.result c.loop-source-test.true c.loop-source.ends c.follow.new.ends c.loop-source.invariant
-    (subst (λ (P : Pattern). Grown c.loop-source.ends (ends_of (shape_of P)) c.follow.new.ends) c.source-item.is c.in-ok-follow.ensures)
+    (subst (λ (P : Pattern). Grown c.loop-source.ends (ends_of (shape_of P)) c.follow.new.ends) c.source-item.is c.in_ok-follow.ensures)
 
 pub returns : goal.returns
 returns c =
     let done = finished_all c.args.sources.now c.loop-source.source-index c.loop-source.ends c.loop-source-test.false c.loop-source.invariant in
     record {
-      exact = outcome_ends c.args.sources.now c.loop-source.ends (sym c.if-not-all-fit.ensures) done;
-      faithful = faithful c.args.sources.now c.loop-source.ends (sym c.if-not-all-fit.ensures) done;
+      exact = outcome_ends c.args.sources.now c.loop-source.ends (sym c.if-not-all_fit.ensures) done;
+      faithful = faithful c.args.sources.now c.loop-source.ends (sym c.if-not-all_fit.ensures) done;
     }
