@@ -7,6 +7,7 @@ use Rattle.record.specs.declared.axis.Axis.{Axis}
 use Rattle.record.specs.declared.axis.Axis.TheVariants.{Along}
 use Rattle.record.specs.declared.rules.Move.{Move}
 use Rattle.record.specs.declared.rules.Move.TheVariants.{Up, Join, Between}
+use Rattle.pattern.specs.Roots.{root_alone}
 use Rattle.pattern.specs.Rows.{row, inner, deep, room, live, rooted, hung, second, rehung, spread, merged_row, MergedInto, MovedTo, moved_output, DroppedBy}
 use Rattle.pattern.specs.Tests.{joined}
 use Rattle.pattern.specs.declared.base.Pattern.{Pattern}
@@ -14,6 +15,7 @@ use Rattle.pattern.specs.declared.row.Row.{Row}
 use Rattle.pattern.specs.declared.row.Test.{Test}
 use Rattle.pattern.proofs.MergedRows.{up_apart, up_live, merged_rooted, into_live}
 use Rattle.pattern.proofs.Moved.{hung_test, hung_live, y_high, w_high, inner_parts, deep_parts, room_parts, moved_rooted, moved_live, axed_rooted}
+use Rattle.pattern.proofs.KeptRoots.{rehung_root, merged_up_root, moved_root, spread_root}
 use Rattle.pattern.proofs.Spreads.{spread_rooted, spread_live}
 use Rattle.all_ends.specs.Ends.{Shape, shape_of, shaped, merged_shape, merge_into, by_move}
 use Rattle.all_ends.proofs.Shapes.{list_merged}
@@ -109,3 +111,19 @@ module _ (s : Shape) (g : Good s) (z : ℕ) where
         ok = spread_rooted rs g.whole z n (n + 1) x high first (omega arith) (omega arith) (omega arith) (omega arith) used free spare g.ok low;
         shown = spread_live rs g.whole z n (n + 1) x high first (omega arith) (omega arith) (omega arith) (omega arith) used free spare s.output g.shown;
       }
+
+  -- in which row 0 alone still asks for the root
+  pub merged_alone : inner rs z ≡ true → (q : Shape) → MergedInto rs z (row rs z).up q.rows → root_alone rs ≡ true → root_alone q.rows ≡ true
+  merged_alone i q m r = let (low, high, used) = inner_parts rs z g.whole i in merged_up_root rs g.whole g.ok z low high used r q.rows m
+
+  pub moved_alone : deep rs z ≡ true → (m : Move) (q : Shape) → MovedTo rs z m q.rows → root_alone rs ≡ true → root_alone q.rows ≡ true
+  moved_alone d m q h r = let (low, high, used, below) = deep_parts rs z g.whole d in moved_root rs g.whole g.ok z low high used r below m q.rows h
+
+  pub axed_alone : inner rs z ≡ true → (x : Axis) → root_alone rs ≡ true → root_alone (rehung rs z (row rs z).up x) ≡ true
+  axed_alone i x r = let (low, high, used) = inner_parts rs z g.whole i in rehung_root rs z (row rs z).up x (let w = g.whole in omega arith) r
+
+  pub opened_alone : (n : ℕ) → room rs z n ≡ true → (x : Axis) → root_alone rs ≡ true → root_alone (spread rs z n (n + 1) x) ≡ true
+  opened_alone n k x r =
+      let (i, first, last, free, spare) = room_parts rs z n g.whole k in
+      let (low, high, used) = inner_parts rs z g.whole i in
+      spread_root rs g.whole g.ok z low high used r n (n + 1) x first (omega arith) (omega arith) (omega arith) (omega arith) free spare

@@ -1,6 +1,6 @@
 -- The alternatives of a question stand for it.
-use Rattle.std.proofs.Common.{◌≡◌, ℕ, ◌+◌, true, leb, ◌⊎◌, List, [], ◌∷◌, ◌++◌, map, Some, None, vec_items, Option, sym, refl, ap, ◌∙◌, subst, ap₂, inl, inr, arith}
-use Rattle.std.proofs.lemmas.Bool.{and_parts}
+use Rattle.std.proofs.Common.{◌≡◌, ℕ, ◌+◌, ◌≤◌, true, leb, ◌⊎◌, List, [], ◌∷◌, ◌++◌, map, Some, None, vec_items, Option, sym, refl, ap, ◌∙◌, subst, ap₂, inl, inr, arith}
+use Rattle.std.proofs.lemmas.Bool.{and_parts, leb-true}
 use Rattle.record.specs.Records.{Record}
 use Rattle.record.specs.declared.place.Place.{Place}
 use Rattle.tally.specs.Semirings.{Semiring, total}
@@ -9,9 +9,10 @@ use Rattle.tally.proofs.Sums.{nought_plus}
 use Rattle.ways.specs.Rewriting.{Every}
 use Rattle.ways.proofs.Whole.{total_append, map_append}
 use Rattle.pattern.specs.Questions.{value_at, ways, question_ways, selects}
+use Rattle.pattern.specs.Sizes.{path_rows}
 use Rattle.pattern.specs.declared.base.Pattern.{Pattern}
 use Rattle.pattern.specs.declared.forward.Forward.{Forward}
-use Rattle.all_ends.specs.Ends.{Shape, shape_of, ends_of, kept_of, question_ends, fits}
+use Rattle.all_ends.specs.Ends.{Shape, shape_of, ends_of, kept_of, question_ends, expanded_rows, fits}
 use Rattle.all_ends.specs.Reached.{forward_shape}
 use Rattle.all_ends.specs.Rewritten.{all_fit, Finished, plain, Among, Any, EndOf, Faithful}
 use Rattle.all_ends.specs.declared.base.Ends.{Ends}
@@ -88,7 +89,7 @@ among_map f (g ∷ fs) (inl e) = inl (ap forward_shape e)
 among_map f (g ∷ fs) (inr i) = inr (among_map f fs i)
 
 end_of : (P : Pattern) (f : Forward) → Among (forward_shape f) (kept_of (ends_of (shape_of P))) → EndOf P f
-end_of P f i = let (a, b) = member (Within (shape_of P)) _ (ends_bounded (shape_of P) (good_pattern P)) (forward_shape f) i in record { reached = i; rows = a; path = b }
+end_of P f i = let (a, b, d, k) = member (Within (shape_of P)) _ (ends_bounded (shape_of P) (good_pattern P)) (forward_shape f) i in record { reached = i; rows = a; path = b; down = d; root = k }
 
 of_some : (Ps : List Pattern) (f : Forward) → Among (forward_shape f) (kept_of (question_ends Ps)) → Any (λ P. EndOf P f) Ps
 unfolding question_ends
@@ -98,16 +99,26 @@ of_some (P ∷ Ps) f i = elim (among_append (forward_shape f) (kept_of (ends_of 
   | inr j ↦ inr (of_some Ps f j)
 ]
 
+short_of : (Ps : List Pattern) (f : Forward) → all_fit Ps ≡ true → Any (λ P. EndOf P f) Ps → path_rows f.pattern.rows f.pattern.output ≤ 15
+unfolding all_fit fits
+short_of [] f a i = absurd i
+short_of (P ∷ Ps) f a (inl e) = let l : expanded_rows (shape_of P) ≤ 15 = leb-true (expanded_rows (shape_of P)) 15 (and_parts _ _ (and_parts _ _ a).0).1 in let p : path_rows f.pattern.rows f.pattern.output ≤ expanded_rows (shape_of P) = e.path in omega arith
+short_of (P ∷ Ps) f a (inr i) = short_of Ps f (and_parts _ _ a).1 i
+
 pub faithful : (Ps : List Pattern) (ends : Ends) → all_fit Ps ≡ true → Finished Ps ends → Faithful Ps (vec_items ends.kept)
 faithful Ps ends f done = record {
   ways = same;
   selected = λ places rec p. unfold selects in ap (leb 1) (same places rec p);
   forward = every_member _ fs (λ g _. g.ahead);
-  ends = every_member _ fs (λ g i. of_some Ps g (subst (Among (forward_shape g)) done.kept (among_map g fs i)));
+  ends = every_member _ fs among_ends;
+  short = every_member _ fs (λ g i. short_of Ps g f (among_ends g i));
 }
   where
     fs : List Forward
     fs = vec_items ends.kept
+
+    among_ends : (g : Forward) → Among g fs → Any (λ P. EndOf P g) Ps
+    among_ends g i = of_some Ps g (subst (Among (forward_shape g)) done.kept (among_map g fs i))
 
     same : (places : List Place) → Record places → (p : ℕ) → question_ways places (map plain fs) p ≡ question_ways places Ps p
     same places rec p = total_ways places p (map plain fs) ∙ values_kept naturals places rec p Ps (map plain fs) f (map_map fs ∙ done.kept) ∙ sym (total_ways places p Ps)

@@ -7,6 +7,7 @@ use Rattle.record.specs.declared.axis.Axis.TheVariants.{Along, Against}
 use Rattle.record.specs.declared.rules.Move.{Move}
 use Rattle.record.specs.declared.rules.Move.TheVariants.{Up, Join, Between}
 use Rattle.ways.specs.Rewriting.{Every}
+use Rattle.pattern.specs.Roots.{root_alone}
 use Rattle.pattern.specs.Rows.{row, inner, deep, room, spread, MovedTo}
 use Rattle.pattern.specs.declared.row.Row.{Row}
 use Rattle.pattern.proofs.MergedRows.{up_within}
@@ -15,7 +16,7 @@ use Rattle.all_ends.specs.Ends.{Shape, shaped, merge_into, merge_at, axis_at, ne
 use Rattle.rewrite.specs.Turns.{turn_of, Told}
 use Rattle.rewrite.specs.declared.turns.Turn.{Turn}
 use Rattle.rewrite.specs.declared.turns.Turn.TheVariants.{Kept, Dropped, Merge, Split, Open, Shift}
-use Rattle.all_ends.proofs.Changed.{Good, pattern_with, MergeKnown, merge_known, MoveKnown, move_known, merged_good, moved_good, axed_good, opened_good}
+use Rattle.all_ends.proofs.Changed.{Good, pattern_with, MergeKnown, merge_known, MoveKnown, move_known, merged_good, moved_good, axed_good, opened_good, merged_alone, moved_alone, axed_alone, opened_alone}
 use Rattle.all_ends.proofs.Changes.{rehung_weigh, merged_weigh, spread_weigh, gone, come, moved_weigh}
 use Rattle.all_ends.proofs.Measures.{cost, back, costs, backs, turns_left, fewer_costs, fewer_backs, less_far, raised}
 use Rattle.rewrite.proofs.Telling.{told}
@@ -23,7 +24,7 @@ use Rattle.rewrite.proofs.Telling.{told}
 -- none, or a pattern with fewer turns left
 abbrev pub Less : Shape → Option Shape → Type 0
 Less s None = Unit {0}
-Less s (Some q) = Good q × (turns_left q.rows < turns_left s.rows)
+Less s (Some q) = Good q × (turns_left q.rows < turns_left s.rows) × (root_alone s.rows ≡ true → root_alone q.rows ≡ true)
 
 module _ (s : Shape) (g : Good s) (z : ℕ) where
   abbrev rs : List Row
@@ -40,6 +41,7 @@ module _ (s : Shape) (g : Good s) (z : ℕ) where
       go low high used (Some q) h = (
         merged_good s g z i q h,
         fewer_costs rs q.rows (let e = merged_weigh cost rs q.rows z (row rs z).up h.0 low high used in omega arith),
+        merged_alone s g z i q h.0,
       )
 
   axed_less : inner rs z ≡ true → (x : Axis) → cost x < cost (row rs z).axis → Less s (axis_at s z x)
@@ -49,6 +51,7 @@ module _ (s : Shape) (g : Good s) (z : ℕ) where
       rw i (
         axed_good s g z i x,
         fewer_costs rs _ (let e = rehung_weigh (λ r. cost r.axis) rs z (row rs z).up x low high g.whole used in omega arith),
+        axed_alone s g z i x,
       )
 
   opened_less : (x : Axis) → cost x ≡ 0 → cost (row rs z).axis ≡ 5 → Less s (open_at s z x)
@@ -65,6 +68,7 @@ module _ (s : Shape) (g : Good s) (z : ℕ) where
           let (low, high, used) = inner_parts rs z g.whole i in (
             opened_good s g z n e x,
             fewer_costs rs _ (let e = spread_weigh (λ r. cost r.axis) rs z n (n + 1) x low high first (omega arith) (omega arith) (omega arith) (omega arith) g.whole used free spare in omega arith),
+            opened_alone s g z n e x,
           )
 
   module _ (d : deep rs z ≡ true) (sY sZ : Step) (aY : (row rs (row rs z).up).axis ≡ Along sY) (aZ : (row rs z).axis ≡ Against sZ) where
@@ -85,7 +89,7 @@ module _ (s : Shape) (g : Good s) (z : ℕ) where
       where
         go : (o : Option Shape) → MoveKnown s z m o → Less s o
         go None h = tt
-        go (Some q) h = (moved_good s g z d m q h, moved_fewer m q.rows h.0)
+        go (Some q) h = (moved_good s g z d m q h, moved_fewer m q.rows h.0, moved_alone s g z d m q h.0)
 
 pub every_imp : {A : Type 0} (F G : A → Type 0) (xs : List A) → ((x : A) → F x → G x) → Every F xs → Every G xs
 every_imp F G [] f h = tt

@@ -1,5 +1,5 @@
 -- What following a pattern reaches, turn by turn.
-use Rattle.std.proofs.Common.{◌≡◌, ℕ, zero, suc, ◌+◌, ◌*◌, ◌<◌, ◌≤◌, true, false, ◌⊎◌, List, [], ◌∷◌, ◌++◌, map, length, get_or, take, drop, Some, None, Ok, Err, Option, Result, sym, refl, ap, ◌∙◌, subst, ap₂, inl, inr, arith, MatchOption}
+use Rattle.std.proofs.Common.{◌≡◌, ℕ, zero, suc, ◌+◌, ◌*◌, ◌<◌, ◌≤◌, true, false, List, [], ◌∷◌, ◌++◌, map, length, get_or, take, drop, Some, None, Ok, Err, Option, Result, sym, refl, ap, ◌∙◌, subst, ap₂, inl, inr, arith, MatchOption}
 use Rattle.std.specs.List.{flat_map as each}
 use Rattle.std.specs.Option.{option_map}
 use Rattle.std.proofs.lemmas.List.{append-nil, append_assoc, take_all, take_more, take-append-drop, drop_more}
@@ -11,7 +11,6 @@ use Rattle.record.specs.declared.rules.Move.{Move}
 use Rattle.refusal.specs.declared.refusing.Refusal.{Refusal}
 use Rattle.ways.specs.Rewriting.{Every}
 use Rattle.pattern.specs.Rows.{all_along}
-use Rattle.pattern.specs.Sizes.{path_rows}
 use Rattle.pattern.specs.declared.base.Pattern.{Pattern}
 use Rattle.pattern.specs.declared.forward.Forward.{Forward}
 use Rattle.all_ends.specs.Ends.{Shape, shape_of, merge_at, axis_at, open_at, move_at, alternatives, ends_from, by_turn, ends_of, Short, ShortRest}

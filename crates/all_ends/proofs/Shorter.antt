@@ -19,7 +19,7 @@ use Rattle.pattern.proofs.MergedRows.{up_within, up_apart}
 use Rattle.pattern.proofs.Moved.{inner_parts, deep_parts, room_parts, y_high, y_used, hung_used, hung_up, hung_axis, upd_id}
 use Rattle.pattern.proofs.Trees.{in_fifteen}
 use Rattle.all_ends.specs.Ends.{Shape, shaped, merge_into, merge_at, axis_at, next_number, open_at, by_move, move_at, alternatives, to_open, expanded_rows, fits, Short, ShortRest}
-use Rattle.rewrite.specs.Turns.{first_some, expansion_by, want_at, first_want, turn_of}
+use Rattle.rewrite.specs.Turns.{first_some, expansion_by, turn_of}
 use Rattle.rewrite.specs.declared.turns.Turn.{Turn}
 use Rattle.rewrite.specs.declared.turns.Turn.TheVariants.{Kept, Dropped, Merge, Split, Open, Shift}
 use Rattle.all_ends.proofs.Changed.{Good, pattern_with, MergeKnown, merge_known, MoveKnown, move_known}

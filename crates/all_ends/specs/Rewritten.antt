@@ -7,6 +7,7 @@ use Rattle.refusal.specs.declared.cause.Cause.TheVariants.{TooManyRows}
 use Rattle.refusal.specs.declared.refusing.Refusal.{Refusal}
 use Rattle.ways.specs.Rewriting.{Every}
 use Rattle.pattern.specs.Questions.{question_ways, selects}
+use Rattle.pattern.specs.Roots.{root_alone, all_down}
 use Rattle.pattern.specs.Rows.{all_along}
 use Rattle.pattern.specs.Sizes.{how_many, in_use, path_rows}
 use Rattle.pattern.specs.declared.base.Pattern.{Pattern}
@@ -44,16 +45,20 @@ abbrev pub Any : {A : Type 0} → (A → Type 0) → List A → Type 0
 Any F [] = ⊥
 Any F (x ∷ xs) = F x ⊎ Any F xs
 
--- a kept end of the pattern, with no more rows than that has when it is expanded, and a path for it is no longer
+-- a kept end of the pattern, with no more rows than that has when it is expanded, and a path for it is no longer; it leads on from row 0 by
+-- child and descendant alone, and its row 0 alone asks for the root if that holds of the pattern
 pub record EndOf (P : Pattern) (f : Forward) : Type 0 where
   pub reached : Among (forward_shape f) (kept_of (ends_of (shape_of P)))
   pub rows : in_use f.pattern.rows ≤ in_use P.rows + 2 * how_many to_open P.rows
   pub path : path_rows f.pattern.rows f.pattern.output ≤ expanded_rows (shape_of P)
+  pub down : all_down f.pattern.rows ≡ true
+  pub root : root_alone P.rows ≡ true → root_alone f.pattern.rows ≡ true
 
 -- the alternatives stand for the question: in every record, at every place, they have together exactly its ways, and so select what it
--- selects; none looks back; and none has grown beyond the pattern that it comes from
+-- selects; none looks back; each is an end of one of the patterns, and a path for it has at most 15 rows
 pub record Faithful (sources : List Pattern) (alternatives : List Forward) : Type 0 where
   pub ways : (places : List Place) → Record places → (p : ℕ) → question_ways places (map plain alternatives) p ≡ question_ways places sources p
   pub selected : (places : List Place) → Record places → (p : ℕ) → selects places (map plain alternatives) p ≡ selects places sources p
   pub forward : Every (λ f. all_along f.pattern.rows ≡ true) alternatives
   pub ends : Every (λ f. Any (λ P. EndOf P f) sources) alternatives
+  pub short : Every (λ f. path_rows f.pattern.rows f.pattern.output ≤ 15) alternatives

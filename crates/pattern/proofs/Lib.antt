@@ -6,6 +6,7 @@ pub mod Growth
 pub mod Hanging
 pub mod Joined
 pub mod Kept
+pub mod KeptRoots
 pub mod KeptWays
 pub mod MergedRows
 pub mod Moved

@@ -74,6 +74,9 @@ module _ (rs : List Row) (len : length rs ≡ 16) (z n m : ℕ) (x : Axis) (z_hi
   pub used_at : (i : ℕ) → (row rs' i).used ≡ upd (upd (λ i. (row rs i).used) n true) m true i
   used_at i = ap (λ f. f i) used_spread
 
+  pub test_at : (i : ℕ) → (row rs' i).test ≡ upd (upd (λ i. (row rs i).test) n Star) m Star i
+  test_at i = ap (λ f. f i) (field_kept (λ r. r.test) refl)
+
   used_n : (row rs' n).used ≡ true
   used_n = used_at n ∙ upd_other (upd (λ i. (row rs i).used) n true) m true n (λ e. m_n (sym e)) ∙ upd_same (λ i. (row rs i).used) n true
 

@@ -11,6 +11,7 @@ mod looking;
 mod making;
 mod moving;
 mod opening;
+mod roots;
 mod row;
 mod sizes;
 

@@ -1,8 +1,9 @@
 -- What the turn that is found says of its pattern.
-use Rattle.std.proofs.Common.{◌≡◌, ℕ, suc, ◌<◌, ◌≤◌, true, cond, not, ◌&&◌, eqb, ◌≢◌, List, [], ◌∷◌, length, Some, None, Option, sym, refl, ap, ◌∙◌, subst, inl, inr, arith}
-use Rattle.std.proofs.lemmas.Bool.{cases_Bool, eq-eqb, ne_eqb, eqb-true, and_parts, and_from, or_left, or_right, not_from_false, false≢true}
+use Rattle.std.proofs.Common.{◌≡◌, ℕ, suc, ◌<◌, ◌≤◌, true, false, cond, not, ◌&&◌, eqb, ◌≢◌, List, [], ◌∷◌, length, Some, None, Option, sym, refl, ap, ◌∙◌, subst, inl, inr, arith}
+use Rattle.std.proofs.lemmas.Bool.{cases_Bool, cases_eq, eq-eqb, ne_eqb, eqb-true, and_parts, and_from, or_left, or_right, not_from_false, false≢true}
 use Rattle.record.specs.Records.{depth_at}
 use Rattle.record.specs.declared.axis.Step.{Step}
+use Rattle.record.specs.declared.axis.Step.TheVariants.{Child, Descendant, Next, FollowingSibling}
 use Rattle.record.specs.declared.axis.Reach.TheVariants.{DescendantOrSelf, AncestorOrSelf, Following, Preceding}
 use Rattle.record.specs.declared.axis.Axis.{Axis}
 use Rattle.record.specs.declared.axis.Axis.TheVariants.{Along, Against, Itself, Wide}
@@ -16,6 +17,7 @@ use Rattle.ways.proofs.Ends.{done_forward}
 use Rattle.ways.proofs.RowLists.{all_decides}
 use Rattle.ways.proofs.Whole.{FindView, dropped}
 use Rattle.pattern.specs.Questions.{label_at, pattern_of, test_gain, value_within, value_at, ways}
+use Rattle.pattern.specs.Roots.{is_down, leads_down, all_down}
 use Rattle.pattern.specs.Rows.{row, fifteen, inner, deep, ahead, is_along, all_along}
 use Rattle.pattern.specs.declared.base.Pattern.{Pattern}
 use Rattle.pattern.specs.declared.row.Row.{Row}
@@ -78,7 +80,7 @@ module _ (P : Pattern) where
 
   -- what is found where the turn is found
   abbrev pub Seen : Turn → Type 0
-  Seen Kept = all_along rs ≡ true
+  Seen Kept = (all_along rs ≡ true) × (all_down rs ≡ true)
   Seen Dropped = Stray
   Seen (Merge z) = Told P (Merge z)
   Seen (Split z x) = Told P (Split z x)
@@ -194,6 +196,27 @@ module _ (P : Pattern) where
       | inr f ↦ or_left (not (row rs r).used) (is_along (row rs r).axis) (not_from_false _ f)
     ])
 
+    -- and from row 0 it goes down
+    down_by : (x : Axis) → is_along x ≡ true → strays x ≡ false → is_down x ≡ true
+    down_by (Along Child) a b = refl
+    down_by (Along Descendant) a b = refl
+    down_by (Along Next) a b = sym b
+    down_by (Along FollowingSibling) a b = sym b
+    down_by (Against s) a b = a
+    down_by Itself a b = a
+    down_by (Wide x) a b = a
+
+    pub told_down : all_down rs ≡ true
+    unfolding all_down
+    told_down = (all_decides fifteen (λ i. leads_down (row rs i))).1 (λ r j. let (h, l) = fifteen_in r j in elim (cases_Bool (row rs r).used) [
+      | inl u ↦ let i = in_rows none rs r h l u in or_right (not (row rs r).used) _ (elim (cases_eq (row rs r).up 0) [
+        | inl e ↦ or_right (not (eqb (row rs r).up 0)) _ (down_by (row rs r).axis (along_by r i (row rs r).axis refl (plain_by r (row rs r).axis (no_ask Expanding a r i)))
+            (elim (cases_Bool (strays (row rs r).axis)) [ inl t ↦ absurd (kept_in r (no_ask Straying b r i) t e) | inr f ↦ f ]))
+        | inr n ↦ or_left (not (eqb (row rs r).up 0)) _ (not_from_false _ (ne_eqb _ _ n))
+      ])
+      | inr f ↦ or_left (not (row rs r).used) _ (not_from_false _ f)
+    ])
+
   -- what is found in each phase
   told_first : (phase : Phase) → ((i : ℕ) → 1 ≤ i → i < 16 → (row rs i).used ≡ true → (t : Turn) → want_by phase i (row rs i).up (row rs i).axis (row rs (row rs i).up).axis ≡ Some t → Seen t) → (t : Turn) → first_want rs phase ≡ Some t → Seen t
   told_first phase tell t e =
@@ -206,7 +229,7 @@ module _ (P : Pattern) where
   seen = one (first_want rs Expanding) refl
     where
       three : first_want rs Expanding ≡ None → first_want rs Straying ≡ None → (o : Option Turn) → first_want rs Shifting ≡ o → Seen (or_else o Kept)
-      three a b None c = told_kept a b c
+      three a b None c = (told_kept a b c, told_down a b c)
       three a b (Some t) c = told_first Shifting (λ i h l u t e. told_shift i a (inner_from i h u) (silent Straying i u (quiet (want_at rs Straying) fifteen b i (in_fifteen i h l))) (row rs i).axis (row rs (row rs i).up).axis refl refl t e) t c
 
       two : first_want rs Expanding ≡ None → (o : Option Turn) → first_want rs Straying ≡ o → Seen (or_else o (or_else (first_want rs Shifting) Kept))
@@ -221,7 +244,7 @@ module _ (P : Pattern) where
   told = from (turn_of rs) seen
     where
       from : (t : Turn) → Seen t → Told P t
-      from Kept h = h
+      from Kept h = h.0
       from Dropped (r, h, l, u, a, z) = astray r h l u a z
       from (Merge z) h = h
       from (Split z x) h = h

@@ -7,7 +7,6 @@ use Rattle.all_ends.specs.Ends.{Shape, shape_of, ends_from, ends_of, ShortRest}
 use Rattle.all_ends.specs.Reached.{Grown, Reached}
 use Rattle.all_ends.proofs.Accounts.{grown_none}
 use Rattle.all_ends.proofs.Followed.{left_of, ends_kept, ends_dropped, ends_merged, ends_split, ends_opened, ends_shifted, ready_merged, ready_axed, ready_split, ready_opened, ready_shifted, reached_first, reached_then, turn_more, turn_fails, turns_done, kept_end, failed}
-use Rattle.all_ends.proofs.Shorter.{kept_short}
 use Rattle.all_ends.proofs.ending.+follow_go_on.Goals as goal
 
 pub follow-go_on-requires : goal.follow-go_on-requires

@@ -1,5 +1,5 @@
 use Rattle.std.proofs.Common.{◌≡◌, ℕ, ◌+◌, ◌*◌, ◌&&◌, leb, List, ap, ◌∙◌, ap₂}
-use Rattle.pattern.specs.Sizes.{how_many, path_rows}
+use Rattle.pattern.specs.Sizes.{how_many}
 use Rattle.pattern.specs.declared.row.Row.{Row}
 use Rattle.all_ends.specs.Ends.{next_number, to_open, fits}
 use Rattle.all_ends.proofs.fitting.is_fit.Goals as goal
