@@ -41,7 +41,7 @@ bounded : (f : ℕ) (s : Shape) → Good s → Every (Bound s) (ends_within f s)
 unfolding ends_within by_turn
 bounded zero s g = (tt, tt)
 bounded (suc f) s g =
-    go (turn_of s.rows) (seen (pattern_with s g))
+    go (turn_of s.rows) (seen (pattern_with s g) g.whole)
     (every_two (Less s) (NoLonger s) (λ o. Every (Bound s) (ends_from (ends_within f) o)) _ (one (λ q k. bounded f q k)) (alternatives_less s g) (alternatives_no_longer s g))
   where
     wider : (q : Shape) → rows_then q ≤ rows_then s → expanded_rows q ≤ expanded_rows s → (root_alone s.rows ≡ true → root_alone q.rows ≡ true) → (o : Option Shape) → Bound q o → Bound s o

@@ -26,11 +26,11 @@ pub record Good (s : Shape) : Type 0 where
   pub ok : rooted s.rows ≡ true
   pub shown : live s.rows s.output ≡ true
 
-pub good_pattern : (P : Pattern) → Good (shape_of P)
-good_pattern P = record { whole = P.whole; ok = P.ok; shown = P.shown }
+pub good_pattern : (P : Pattern) → length P.rows ≡ 16 → Good (shape_of P)
+good_pattern P len = record { whole = len; ok = P.ok; shown = P.shown }
 
 abbrev pub pattern_with : (s : Shape) → Good s → Pattern
-pattern_with s g = record { rows = s.rows; output = s.output; ok = g.ok; shown = g.shown; whole = g.whole }
+pattern_with s g = record { rows = s.rows; output = s.output; ok = g.ok; shown = g.shown }
 
 -- what a merge gives
 abbrev pub MergeKnown : Shape → ℕ → ℕ → Option Shape → Type 0

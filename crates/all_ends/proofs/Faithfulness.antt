@@ -1,5 +1,5 @@
 -- The alternatives of a question stand for it.
-use Rattle.std.proofs.Common.{◌≡◌, ℕ, ◌+◌, ◌≤◌, true, leb, ◌⊎◌, List, [], ◌∷◌, ◌++◌, map, Some, None, vec_items, Option, sym, refl, ap, ◌∙◌, subst, ap₂, inl, inr, arith}
+use Rattle.std.proofs.Common.{◌≡◌, ℕ, ◌+◌, ◌≤◌, true, leb, ◌⊎◌, List, [], ◌∷◌, ◌++◌, map, length, Some, None, vec_items, Option, sym, refl, ap, ◌∙◌, subst, ap₂, inl, inr, arith}
 use Rattle.std.proofs.lemmas.Bool.{and_parts, leb-true}
 use Rattle.record.specs.Records.{Record}
 use Rattle.record.specs.declared.place.Place.{Place}
@@ -21,6 +21,7 @@ use Rattle.all_ends.proofs.Bounded.{Within, ends_bounded}
 use Rattle.all_ends.proofs.Changed.{good_pattern}
 use Rattle.all_ends.proofs.Measures.{turns_few}
 use Rattle.all_ends.proofs.Rooms.{fits_numbered}
+use Rattle.all_ends.proofs.Shorter.{fits_whole}
 use Rattle.all_ends.proofs.Worths.{worth, worth_value, worth_none, ends_kept}
 
 module _ {T : Type 0} (S : Semiring T) (places : List Place) (rec : Record places) (p : ℕ) where
@@ -38,7 +39,7 @@ module _ {T : Type 0} (S : Semiring T) (places : List Place) (rec : Record place
   unfolding ends_of
   one_source P f =
       sym (only_kept (ends_of (shape_of P)))
-      ∙ ends_kept S places rec p 1000000 (shape_of P) (good_pattern P) (fits_numbered (shape_of P) f) (let l = turns_few P.rows in omega arith)
+      ∙ ends_kept S places rec p 1000000 (shape_of P) (good_pattern P (fits_whole (shape_of P) f)) (fits_numbered (shape_of P) f) (let l = turns_few P.rows in omega arith)
       ∙ worth_value S places rec p P
 
   all_sources : (Ps : List Pattern) → all_fit Ps ≡ true → total S (map worth_of (kept_of (question_ends Ps))) ≡ total S (map (λ P. value_at S places P p) Ps)
@@ -88,21 +89,21 @@ among_map f [] i = absurd i
 among_map f (g ∷ fs) (inl e) = inl (ap forward_shape e)
 among_map f (g ∷ fs) (inr i) = inr (among_map f fs i)
 
-end_of : (P : Pattern) (f : Forward) → Among (forward_shape f) (kept_of (ends_of (shape_of P))) → EndOf P f
-end_of P f i = let (a, b, d, k) = member (Within (shape_of P)) _ (ends_bounded (shape_of P) (good_pattern P)) (forward_shape f) i in record { reached = i; rows = a; path = b; down = d; root = k }
+end_of : (P : Pattern) → length P.rows ≡ 16 → (f : Forward) → Among (forward_shape f) (kept_of (ends_of (shape_of P))) → EndOf P f
+end_of P len f i = let (a, b, d, k) = member (Within (shape_of P)) _ (ends_bounded (shape_of P) (good_pattern P len)) (forward_shape f) i in record { reached = i; rows = a; path = b; down = d; root = k }
 
-of_some : (Ps : List Pattern) (f : Forward) → Among (forward_shape f) (kept_of (question_ends Ps)) → Any (λ P. EndOf P f) Ps
-unfolding question_ends
-of_some [] f i = absurd (unfold kept_of in i)
-of_some (P ∷ Ps) f i = elim (among_append (forward_shape f) (kept_of (ends_of (shape_of P))) (kept_of (question_ends Ps)) (subst (Among (forward_shape f)) (kept_append (ends_of (shape_of P)) (question_ends Ps)) i)) [
-  | inl j ↦ inl (end_of P f j)
-  | inr j ↦ inr (of_some Ps f j)
+of_some : (Ps : List Pattern) → all_fit Ps ≡ true → (f : Forward) → Among (forward_shape f) (kept_of (question_ends Ps)) → Any (λ P. EndOf P f) Ps
+unfolding question_ends all_fit
+of_some [] a f i = absurd (unfold kept_of in i)
+of_some (P ∷ Ps) a f i = elim (among_append (forward_shape f) (kept_of (ends_of (shape_of P))) (kept_of (question_ends Ps)) (subst (Among (forward_shape f)) (kept_append (ends_of (shape_of P)) (question_ends Ps)) i)) [
+  | inl j ↦ inl (end_of P (fits_whole (shape_of P) (and_parts _ _ a).0) f j)
+  | inr j ↦ inr (of_some Ps (and_parts _ _ a).1 f j)
 ]
 
 short_of : (Ps : List Pattern) (f : Forward) → all_fit Ps ≡ true → Any (λ P. EndOf P f) Ps → path_rows f.pattern.rows f.pattern.output ≤ 15
 unfolding all_fit fits
 short_of [] f a i = absurd i
-short_of (P ∷ Ps) f a (inl e) = let l : expanded_rows (shape_of P) ≤ 15 = leb-true (expanded_rows (shape_of P)) 15 (and_parts _ _ (and_parts _ _ a).0).1 in let p : path_rows f.pattern.rows f.pattern.output ≤ expanded_rows (shape_of P) = e.path in omega arith
+short_of (P ∷ Ps) f a (inl e) = let l : expanded_rows (shape_of P) ≤ 15 = leb-true (expanded_rows (shape_of P)) 15 (and_parts _ _ (and_parts _ _ (and_parts _ _ a).0).1).1 in let p : path_rows f.pattern.rows f.pattern.output ≤ expanded_rows (shape_of P) = e.path in omega arith
 short_of (P ∷ Ps) f a (inr i) = short_of Ps f (and_parts _ _ a).1 i
 
 pub faithful : (Ps : List Pattern) (ends : Ends) → all_fit Ps ≡ true → Finished Ps ends → Faithful Ps (vec_items ends.kept)
@@ -118,7 +119,7 @@ faithful Ps ends f done = record {
     fs = vec_items ends.kept
 
     among_ends : (g : Forward) → Among g fs → Any (λ P. EndOf P g) Ps
-    among_ends g i = of_some Ps g (subst (Among (forward_shape g)) done.kept (among_map g fs i))
+    among_ends g i = of_some Ps f g (subst (Among (forward_shape g)) done.kept (among_map g fs i))
 
     same : (places : List Place) → Record places → (p : ℕ) → question_ways places (map plain fs) p ≡ question_ways places Ps p
     same places rec p = total_ways places p (map plain fs) ∙ values_kept naturals places rec p Ps (map plain fs) f (map_map fs ∙ done.kept) ∙ sym (total_ways places p Ps)

@@ -101,7 +101,7 @@ every_map F f (x ∷ xs) h = (h x, every_map F f xs h)
 
 pub alternatives_less : (s : Shape) (g : Good s) → Every (Less s) (alternatives s (turn_of s.rows))
 unfolding alternatives
-alternatives_less s g = go (turn_of s.rows) (told (pattern_with s g))
+alternatives_less s g = go (turn_of s.rows) (told (pattern_with s g) g.whole)
   where
     go : (t : Turn) → Told (pattern_with s g) t → Every (Less s) (alternatives s t)
     go Kept h = tt

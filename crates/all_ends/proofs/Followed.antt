@@ -36,12 +36,12 @@ left_of None = 0
 left_of (Some q) = 2 * turns_left q.rows + 2
 
 -- the ends go by the turn
-module _ (P : Pattern) where
+module _ (P : Pattern) (len : length P.rows ≡ 16) where
   abbrev s : Shape
   s = shape_of P
 
   by_its_turn : (t : Turn) → t ≡ turn_of P.rows → ends_of s ≡ by_turn ends_of s t
-  by_its_turn t e = by_the_rules s (good_pattern P) ∙ ap (by_turn ends_of s) (sym e)
+  by_its_turn t e = by_the_rules s (good_pattern P len) ∙ ap (by_turn ends_of s) (sym e)
 
   pub ends_kept : Kept ≡ turn_of P.rows → ends_of s ≡ Some s ∷ []
   unfolding by_turn
@@ -75,11 +75,11 @@ module _ (P : Pattern) where
 
   -- every alternative is short
   short_at : Short s → (t : Turn) → t ≡ turn_of P.rows → Every ShortRest (alternatives s t)
-  short_at h t e = subst (λ u. Every ShortRest (alternatives s u)) (sym e) (alternatives_short s (good_pattern P) h)
+  short_at h t e = subst (λ u. Every ShortRest (alternatives s u)) (sym e) (alternatives_short s (good_pattern P len) h)
 
   -- fewer turns are left
   less_at : (t : Turn) → t ≡ turn_of P.rows → Every (Less s) (alternatives s t)
-  less_at t e = subst (λ u. Every (Less s) (alternatives s u)) (sym e) (alternatives_less s (good_pattern P))
+  less_at t e = subst (λ u. Every (Less s) (alternatives s u)) (sym e) (alternatives_less s (good_pattern P len))
 
   fewer : (o : Option Pattern) → Less s (option_map shape_of o) → left_of o < 2 * turns_left P.rows + 1
   fewer None h = omega arith

@@ -48,7 +48,7 @@ Numbered rs = highest rs 15 + 2 * openings rs ≤ 15
 
 pub fits_numbered : (s : Shape) → fits s ≡ true → Numbered s.rows
 unfolding fits next_number
-fits_numbered s e = let h = leb-true (highest s.rows 15 + 1 + 2 * how_many to_open s.rows) 16 (and_parts _ _ e).0 in let c = count_openings s.rows in omega arith
+fits_numbered s e = let h = leb-true (highest s.rows 15 + 1 + 2 * how_many to_open s.rows) 16 (and_parts _ _ (and_parts _ _ e).1).0 in let c = count_openings s.rows in omega arith
 
 -- none, or a pattern that needs no higher numbers
 abbrev NoHigher : Shape → Option Shape → Type 0
@@ -148,7 +148,7 @@ module _ (s : Shape) (g : Good s) (z : ℕ) where
 
 alternatives_higher : (s : Shape) (g : Good s) → Every (NoHigher s) (alternatives s (turn_of s.rows))
 unfolding alternatives
-alternatives_higher s g = go (turn_of s.rows) (told (pattern_with s g))
+alternatives_higher s g = go (turn_of s.rows) (told (pattern_with s g) g.whole)
   where
     go : (t : Turn) → Told (pattern_with s g) t → Every (NoHigher s) (alternatives s t)
     go Kept h = tt

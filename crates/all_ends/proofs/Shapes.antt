@@ -1,5 +1,5 @@
 -- What the changes of a pattern answer, as the definitions of the ends have it.
-use Rattle.std.proofs.Common.{◌≡◌, ℕ, ◌+◌, ◌<◌, ◌≤◌, Bool, true, false, cond, eqb, ◌≢◌, List, map, length, Some, None, Option, sym, refl, ap, ◌∙◌, subst, ap₂, inl, inr, arith, MatchOption}
+use Rattle.std.proofs.Common.{◌≡◌, ℕ, ◌+◌, ◌<◌, ◌≤◌, Bool, true, false, cond, eqb, ◌≢◌, List, map, length, Some, None, Option, sym, refl, ap, ◌∙◌, subst, ap₂, inl, inr, arith, MatchOption, IfSome}
 use Rattle.std.specs.List.{range_with_len as counting}
 use Rattle.std.specs.Option.{option_map}
 use Rattle.std.proofs.lemmas.List.FromFn.{fill_by_all, get_or-map-range_with_len, length-map-range_with_len}
@@ -40,12 +40,12 @@ list_merged rs z w t len low high i = elim (cases_lt i 16) [
 ]
 
 -- the answer of a merge, where the tests and the row are known
-pub merge_said : (s : Shape) (z w : ℕ) (o : Option Pattern) → MatchOption o (joined (row s.rows w).test (row s.rows z).test ≡ None) (λ Q. MergedInto s.rows z w Q.rows × (Q.output ≡ cond (eqb s.output z) w s.output)) →
+pub merge_said : (s : Shape) (z w : ℕ) (o : Option Pattern) → IfSome o (λ Q. length Q.rows ≡ 16) → MatchOption o (joined (row s.rows w).test (row s.rows z).test ≡ None) (λ Q. MergedInto s.rows z w Q.rows × (Q.output ≡ cond (eqb s.output z) w s.output)) →
     option_map shape_of o ≡ merge_into s z w
 unfolding merge_into merged_shape
-merge_said s z w None e = ap (option_map (merged_shape s z w)) (sym e)
-merge_said s z w (Some Q) ((t, e, h), k) =
-    ap {B = Option Shape} Some (ap₂ {C = Shape} shaped (merged_list s.rows Q.rows z w t Q.whole h) k) ∙ ap (option_map (merged_shape s z w)) (sym e)
+merge_said s z w None l e = ap (option_map (merged_shape s z w)) (sym e)
+merge_said s z w (Some Q) l ((t, e, h), k) =
+    ap {B = Option Shape} Some (ap₂ {C = Shape} shaped (merged_list s.rows Q.rows z w t l h) k) ∙ ap (option_map (merged_shape s z w)) (sym e)
 
 pub when_true : {A : Type 0} (b : Bool) (x y z : A) → b ≡ true → z ≡ x → z ≡ cond b x y
 when_true b x y z e h = rw e h
@@ -53,15 +53,17 @@ when_true b x y z e h = rw e h
 pub when_false : {A : Type 0} (b : Bool) (x y z : A) → b ≡ false → z ≡ y → z ≡ cond b x y
 when_false b x y z e h = rw e h
 
-module _ (P : Pattern) (z : ℕ) where
+module _ (P : Pattern) (len : length P.rows ≡ 16) (z : ℕ) where
   abbrev rs : List Row
   rs = P.rows
 
-  pub merge_told : (o : Option Pattern) → inner rs z ≡ true →
-      MatchOption o (joined (row rs (row rs z).up).test (row rs z).test ≡ None) (λ Q. Merged rs z Q.rows × (Q.output ≡ cond (eqb P.output z) (row rs z).up P.output)) →
-      option_map shape_of o ≡ merge_at (shape_of P) z
+  -- what a merge answers: o, which is x
+  abbrev MergeOf : Option Pattern → Type 0
+  MergeOf o = MatchOption o (joined (row rs (row rs z).up).test (row rs z).test ≡ None) (λ Q. Merged rs z Q.rows × (Q.output ≡ cond (eqb P.output z) (row rs z).up P.output))
+
+  pub merge_told : (o x : Option Pattern) → o ≡ x → IfSome x (λ Q. length Q.rows ≡ 16) → inner rs z ≡ true → MergeOf o → option_map shape_of x ≡ merge_at (shape_of P) z
   unfolding merge_at
-  merge_told o i h = when_true (inner rs z) _ _ _ i (merge_said (shape_of P) z (row rs z).up o h)
+  merge_told o x e l i h = when_true (inner rs z) _ _ _ i (merge_said (shape_of P) z (row rs z).up x l (subst MergeOf e h))
 
   pub no_merge : inner rs z ≡ false → None ≡ merge_at (shape_of P) z
   unfolding merge_at
@@ -87,24 +89,27 @@ module _ (P : Pattern) (z : ℕ) where
       subst (λ m. None ≡ cond (room rs z m) (Some (shaped (spread rs z m (m + 1) x) P.output)) None) e
       (when_false (room rs z n) _ _ _ i refl)
 
-  -- a row that is moved
-  moves_said : (m : Move) (o : Option Pattern) → deep rs z ≡ true → MatchOption o (DroppedBy rs z m) (λ Q. MovedTo rs z m Q.rows × (Q.output ≡ moved_output rs z m P.output)) → option_map shape_of o ≡ by_move (shape_of P) z m
-  unfolding by_move
-  moves_said Up None d h = absurd h
-  moves_said Up (Some Q) d (a, b) = ap {B = Option Shape} Some (ap₂ {C = Shape} shaped a b)
-  moves_said (Between x y) None d h = absurd h
-  moves_said (Between x y) (Some Q) d (a, b) = ap {B = Option Shape} Some (ap₂ {C = Shape} shaped a b)
-  moves_said (Join a) None d h =
-      let (low, high, used, below) = deep_parts rs z P.whole d in
-      let k = y_high rs P.whole P.ok z low high used below in
-      let one : Shape = shaped (rehung rs (row rs z).up (second rs z) (Along a)) P.output in
-      let same : (i : ℕ) → (row one.rows i).test ≡ (row rs i).test = λ i. hung_test rs (row rs z).up (second rs z) (Along a) (let w = P.whole in omega arith) i in
-      merge_said one z (second rs z) None (ap₂ joined (same (second rs z)) (same z) ∙ h)
-  moves_said (Join a) (Some Q) d h = merge_said (shaped (rehung rs (row rs z).up (second rs z) (Along a)) P.output) z (second rs z) (Some Q) h
+  -- what a move answers
+  abbrev MoveOf : Move → Option Pattern → Type 0
+  MoveOf m o = MatchOption o (DroppedBy rs z m) (λ Q. MovedTo rs z m Q.rows × (Q.output ≡ moved_output rs z m P.output))
 
-  pub move_told : (m : Move) (o : Option Pattern) → deep rs z ≡ true → MatchOption o (DroppedBy rs z m) (λ Q. MovedTo rs z m Q.rows × (Q.output ≡ moved_output rs z m P.output)) → option_map shape_of o ≡ move_at (shape_of P) z m
+  moves_said : (m : Move) (o : Option Pattern) → IfSome o (λ Q. length Q.rows ≡ 16) → deep rs z ≡ true → MoveOf m o → option_map shape_of o ≡ by_move (shape_of P) z m
+  unfolding by_move
+  moves_said Up None l d h = absurd h
+  moves_said Up (Some Q) l d (a, b) = ap {B = Option Shape} Some (ap₂ {C = Shape} shaped a b)
+  moves_said (Between x y) None l d h = absurd h
+  moves_said (Between x y) (Some Q) l d (a, b) = ap {B = Option Shape} Some (ap₂ {C = Shape} shaped a b)
+  moves_said (Join a) None l d h =
+      let (low, high, used, below) = deep_parts rs z len d in
+      let k = y_high rs len P.ok z low high used below in
+      let one : Shape = shaped (rehung rs (row rs z).up (second rs z) (Along a)) P.output in
+      let same : (i : ℕ) → (row one.rows i).test ≡ (row rs i).test = λ i. hung_test rs (row rs z).up (second rs z) (Along a) (omega arith) i in
+      merge_said one z (second rs z) None l (ap₂ joined (same (second rs z)) (same z) ∙ h)
+  moves_said (Join a) (Some Q) l d h = merge_said (shaped (rehung rs (row rs z).up (second rs z) (Along a)) P.output) z (second rs z) (Some Q) l h
+
+  pub move_told : (m : Move) (o x : Option Pattern) → o ≡ x → IfSome x (λ Q. length Q.rows ≡ 16) → deep rs z ≡ true → MoveOf m o → option_map shape_of x ≡ move_at (shape_of P) z m
   unfolding move_at
-  move_told m o d h = when_true (deep rs z) _ _ _ d (moves_said m o d h)
+  move_told m o x e l d h = when_true (deep rs z) _ _ _ d (moves_said m x l d (subst (MoveOf m) e h))
 
   pub no_move : (m : Move) → deep rs z ≡ false → None ≡ move_at (shape_of P) z m
   unfolding move_at

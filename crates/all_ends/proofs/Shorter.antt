@@ -2,7 +2,7 @@
 use Rattle.std.proofs.Common.{◌≡◌, ℕ, ◌+◌, ◌*◌, ◌<◌, ◌≤◌, Bool, true, false, cond, ◌&&◌, eqb, ltb, ◌⊎◌, List, [], ◌∷◌, length, Some, None, Option, sym, refl, ap, ◌∙◌, subst, ap₂, inl, inr, arith}
 use mathlib.Core.Path.{fun_ext}
 use Rattle.std.proofs.lemmas.List.{length-set}
-use Rattle.std.proofs.lemmas.Bool.{cases_eq, eq-eqb, ne_eqb, leb-true, and_parts}
+use Rattle.std.proofs.lemmas.Bool.{cases_eq, eq-eqb, ne_eqb, eqb-true, leb-true, and_parts}
 use Rattle.record.specs.Moves.{table, bit}
 use Rattle.record.specs.declared.axis.Step.{Step}
 use Rattle.record.specs.declared.axis.Axis.{Axis}
@@ -253,7 +253,7 @@ module _ (s : Shape) (g : Good s) (z : ℕ) where
 
 pub alternatives_no_longer : (s : Shape) (g : Good s) → Every (NoLonger s) (alternatives s (turn_of s.rows))
 unfolding alternatives
-alternatives_no_longer s g = go (turn_of s.rows) (seen (pattern_with s g))
+alternatives_no_longer s g = go (turn_of s.rows) (seen (pattern_with s g) g.whole)
   where
     go : (t : Turn) → Seen (pattern_with s g) t → Every (NoLonger s) (alternatives s t)
     go Kept h = tt
@@ -285,4 +285,8 @@ kept_short s (inr d) e = let k : Kept ≡ Dropped = e ∙ d in let z : ◌≡◌
 
 pub fits_short : (s : Shape) → fits s ≡ true → Short s
 unfolding fits
-fits_short s e = inl (leb-true (expanded_rows s) 15 (and_parts _ _ e).1)
+fits_short s e = inl (leb-true (expanded_rows s) 15 (and_parts _ _ (and_parts _ _ e).1).1)
+
+pub fits_whole : (s : Shape) → fits s ≡ true → length s.rows ≡ 16
+unfolding fits
+fits_whole s e = eqb-true (length s.rows) 16 (and_parts _ _ e).0

@@ -175,7 +175,7 @@ module _ {T : Type 0} (S : Semiring T) (places : List Place) (rec : Record place
   unfolding ends_within by_turn
   ends_kept zero s g h l = absurd (omega arith)
   ends_kept (suc f) s g h l =
-      go (turn_of s.rows) (seen (pattern_with s g))
+      go (turn_of s.rows) (seen (pattern_with s g) g.whole)
       (every_both (Less s) Fit (λ o. total S (map worth (ends_from (ends_within f) o)) ≡ worth o) (alternatives s (turn_of s.rows)) (one (λ q k i j. ends_kept f q k i (omega arith))) (alternatives_less s g) (alternatives_fit s g h))
     where
       every_both : (F G H : Option Shape → Type 0) (xs : List (Option Shape)) → ((x : Option Shape) → F x → G x → H x) → Every F xs → Every G xs → Every H xs

@@ -20,12 +20,15 @@ pub(crate) fn next_number(rows: &[Row; 16]) -> u8
     next
 }
 
-// Row z goes into its up-row.
+// Row z goes into its up-row. The answer is taken apart, since only of a pattern by itself is it known that it has sixteen rows.
 pub(crate) fn merge_at(pattern: Pattern, z: u8) -> Option<Pattern>
     ensures { option_map shape_of result ≡ merge_at (shape_of pattern) z }
 {
     match pattern.merge(z) {
-        Ok(merged) => merged,
+        Ok(merged) => match merged {
+            Some(kept) => Some(kept),
+            None => None,
+        },
         Err(NoSuchRow) => None,
     }
 }
@@ -51,12 +54,15 @@ pub(crate) fn open_at(pattern: Pattern, z: u8, aside: Axis) -> Option<Pattern>
     }
 }
 
-// Row z is moved by the table.
+// Row z is moved by the table. The answer is taken apart as before.
 pub(crate) fn move_at(pattern: Pattern, z: u8, by: Move) -> Option<Pattern>
     ensures { option_map shape_of result ≡ move_at (shape_of pattern) z by }
 {
     match pattern.moved(z, by) {
-        Ok(moved) => moved,
+        Ok(moved) => match moved {
+            Some(kept) => Some(kept),
+            None => None,
+        },
         Err(NoSuchRow) => None,
     }
 }

@@ -85,8 +85,10 @@ pub(crate) fn follow(pattern: Pattern, ends: &mut Ends) -> Result<(), Refusal>
         Turn::Dropped => ends.reach(None),
         Turn::Merge(z) => go_on(merge_at(pattern, z), ends),
         Turn::Split(z, axis) => {
-            go_on(axis_at(pattern, z, axis), ends)?;
-            go_on(merge_at(pattern, z), ends)
+            let plain = axis_at(pattern, z, axis);
+            let merged = merge_at(pattern, z);
+            go_on(plain, ends)?;
+            go_on(merged, ends)
         }
         Turn::Open(z, aside) => go_on(open_at(pattern, z, aside), ends),
         Turn::Shift(z, upper, lower) => {

@@ -1,5 +1,5 @@
 // A pattern: sixteen rows by value, and the row that is its output.
-ghost use Rattle.std.specs.Prelude.{◌≡◌, true, length};
+ghost use Rattle.std.specs.Prelude.{◌≡◌, true};
 ghost use Rattle.pattern.specs.Rows.{rooted, live};
 
 use crate::row::Row;
@@ -11,5 +11,4 @@ pub struct Pattern {
     pub(crate) output: u8,
     ghost ok: { rooted rows ≡ true },
     ghost shown: { live rows output ≡ true },
-    ghost whole: { length rows ≡ 16 },
 }

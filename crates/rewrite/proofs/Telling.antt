@@ -70,22 +70,22 @@ first_expansion rs = first_want rs Expanding
 abbrev pub first_straying : List Row → Option Turn
 first_straying rs = first_want rs Straying
 
-module _ (P : Pattern) where
+-- a row that leads nowhere from the root
+abbrev pub Stray : Pattern → Type 0
+Stray P = (r : ℕ) × (1 ≤ r) × (r < 16) × ((row P.rows r).used ≡ true) × (strays (row P.rows r).axis ≡ true) × ((row P.rows r).up ≡ 0)
+
+-- what is found where the turn is found
+abbrev pub Seen : Pattern → Turn → Type 0
+Seen P Kept = (all_along P.rows ≡ true) × (all_down P.rows ≡ true)
+Seen P Dropped = Stray P
+Seen P (Merge z) = Told P (Merge z)
+Seen P (Split z x) = Told P (Split z x)
+Seen P (Open z x) = Told P (Open z x)
+Seen P (Shift z y s) = Told P (Shift z y s) × (first_want P.rows Expanding ≡ None)
+
+module _ (P : Pattern) (len : length P.rows ≡ 16) where
   abbrev rs : List Row
   rs = P.rows
-
-  -- a row that leads nowhere from the root
-  abbrev pub Stray : Type 0
-  Stray = (r : ℕ) × (1 ≤ r) × (r < 16) × ((row rs r).used ≡ true) × (strays (row rs r).axis ≡ true) × ((row rs r).up ≡ 0)
-
-  -- what is found where the turn is found
-  abbrev pub Seen : Turn → Type 0
-  Seen Kept = (all_along rs ≡ true) × (all_down rs ≡ true)
-  Seen Dropped = Stray
-  Seen (Merge z) = Told P (Merge z)
-  Seen (Split z x) = Told P (Split z x)
-  Seen (Open z x) = Told P (Open z x)
-  Seen (Shift z y s) = Told P (Shift z y s) × (first_want rs Expanding ≡ None)
 
   -- a row that asks is in use
   asks : (phase : Phase) (i : ℕ) (t : Turn) → want_at rs phase i ≡ Some t → ((row rs i).used ≡ true) × (want_by phase i (row rs i).up (row rs i).axis (row rs (row rs i).up).axis ≡ Some t)
@@ -102,14 +102,14 @@ module _ (P : Pattern) where
   unfolding inner
   inner_from i h u = and_from _ _ (not_from_false _ (ne_eqb i 0 (λ e. absurd (omega arith)))) u
 
-  told_expansion : (i : ℕ) → inner rs i ≡ true → (x : Axis) → (row rs i).axis ≡ x → (t : Turn) → expansion_by i x ≡ Some t → Seen t
+  told_expansion : (i : ℕ) → inner rs i ≡ true → (x : Axis) → (row rs i).axis ≡ x → (t : Turn) → expansion_by i x ≡ Some t → Seen P t
   told_expansion i h (Along s) a t e = absurd (same t None e)
   told_expansion i h (Against s) a t e = absurd (same t None e)
-  told_expansion i h Itself a t e = subst Seen (sym (same t (Some (Merge i)) e)) (h, a)
-  told_expansion i h (Wide DescendantOrSelf) a t e = subst Seen (sym (same t (Some (Split i _)) e)) (h, inl (a, refl))
-  told_expansion i h (Wide AncestorOrSelf) a t e = subst Seen (sym (same t (Some (Split i _)) e)) (h, inr (a, refl))
-  told_expansion i h (Wide Following) a t e = subst Seen (sym (same t (Some (Open i _)) e)) (h, inl (a, refl))
-  told_expansion i h (Wide Preceding) a t e = subst Seen (sym (same t (Some (Open i _)) e)) (h, inr (a, refl))
+  told_expansion i h Itself a t e = subst (Seen P) (sym (same t (Some (Merge i)) e)) (h, a)
+  told_expansion i h (Wide DescendantOrSelf) a t e = subst (Seen P) (sym (same t (Some (Split i _)) e)) (h, inl (a, refl))
+  told_expansion i h (Wide AncestorOrSelf) a t e = subst (Seen P) (sym (same t (Some (Split i _)) e)) (h, inr (a, refl))
+  told_expansion i h (Wide Following) a t e = subst (Seen P) (sym (same t (Some (Open i _)) e)) (h, inl (a, refl))
+  told_expansion i h (Wide Preceding) a t e = subst (Seen P) (sym (same t (Some (Open i _)) e)) (h, inr (a, refl))
 
   -- a row that leads nowhere
   astray : (r : ℕ) → 1 ≤ r → r < 16 → (row rs r).used ≡ true → strays (row rs r).axis ≡ true → (row rs r).up ≡ 0 → Told P Dropped
@@ -125,10 +125,10 @@ module _ (P : Pattern) where
       tree_held : Tree (weighted naturals Q P.output (λ q. bracket naturals (eqb p q))) (height (λ i. (row rs i).up) 16)
       tree_held = let t = tree_of (test_gain naturals (label_at places)) rs (omega arith) P.ok in unfold weighted in record { apart = t.apart; no_root = t.no_root; ups = t.ups; ranks = t.ranks }
 
-  told_stray : (i : ℕ) → 1 ≤ i → i < 16 → (row rs i).used ≡ true → (t : Turn) → stray_by (row rs i).up (row rs i).axis ≡ Some t → Seen t
+  told_stray : (i : ℕ) → 1 ≤ i → i < 16 → (row rs i).used ≡ true → (t : Turn) → stray_by (row rs i).up (row rs i).axis ≡ Some t → Seen P t
   told_stray i h l u t e = elim (cases_Bool (eqb (row rs i).up 0 && strays (row rs i).axis)) [
     | inl b ↦ let (c, d) = and_parts _ _ b in
-        subst Seen (sym (same t (Some Dropped) (subst (λ x. cond x (Some Dropped) None ≡ Some t) b e))) (i, h, l, u, d, eqb-true _ _ c)
+        subst (Seen P) (sym (same t (Some Dropped) (subst (λ x. cond x (Some Dropped) None ≡ Some t) b e))) (i, h, l, u, d, eqb-true _ _ c)
     | inr b ↦ absurd (same t None (subst (λ x. cond x (Some Dropped) None ≡ Some t) b e))
   ]
 
@@ -139,10 +139,10 @@ module _ (P : Pattern) where
       let k : Some Dropped ≡ None = subst (λ x. cond x (Some Dropped) None ≡ None) b e in
       absurd (subst (Is Dropped) k refl)
 
-  told_shift : (i : ℕ) → first_want rs Expanding ≡ None → inner rs i ≡ true → stray_by (row rs i).up (row rs i).axis ≡ None → (x above : Axis) → (row rs i).axis ≡ x → (row rs (row rs i).up).axis ≡ above → (t : Turn) → shift_by i x above ≡ Some t → Seen t
+  told_shift : (i : ℕ) → first_want rs Expanding ≡ None → inner rs i ≡ true → stray_by (row rs i).up (row rs i).axis ≡ None → (x above : Axis) → (row rs i).axis ≡ x → (row rs (row rs i).up).axis ≡ above → (t : Turn) → shift_by i x above ≡ Some t → Seen P t
   unfolding deep
   told_shift i n h q (Against z) (Along y) a b t e =
-      subst Seen (sym (same t (Some (Shift i y z)) e)) ((and_from _ _ h (not_from_false _ (ne_eqb _ _ (kept_in i q (ap strays a)))), b, a), n)
+      subst (Seen P) (sym (same t (Some (Shift i y z)) e)) ((and_from _ _ h (not_from_false _ (ne_eqb _ _ (kept_in i q (ap strays a)))), b, a), n)
   told_shift i n h q (Against z) (Against y) a b t e = absurd (same t None e)
   told_shift i n h q (Against z) Itself a b t e = absurd (same t None e)
   told_shift i n h q (Against z) (Wide y) a b t e = absurd (same t None e)
@@ -218,32 +218,32 @@ module _ (P : Pattern) where
     ])
 
   -- what is found in each phase
-  told_first : (phase : Phase) → ((i : ℕ) → 1 ≤ i → i < 16 → (row rs i).used ≡ true → (t : Turn) → want_by phase i (row rs i).up (row rs i).axis (row rs (row rs i).up).axis ≡ Some t → Seen t) → (t : Turn) → first_want rs phase ≡ Some t → Seen t
+  told_first : (phase : Phase) → ((i : ℕ) → 1 ≤ i → i < 16 → (row rs i).used ≡ true → (t : Turn) → want_by phase i (row rs i).up (row rs i).axis (row rs (row rs i).up).axis ≡ Some t → Seen P t) → (t : Turn) → first_want rs phase ≡ Some t → Seen P t
   told_first phase tell t e =
       let (i, j, w) = found (want_at rs phase) fifteen t e in
       let (h, l) = fifteen_in i j in
       let (u, k) = asks phase i t w in
       tell i h l u t k
 
-  pub seen : Seen (turn_of rs)
+  pub seen : Seen P (turn_of rs)
   seen = one (first_want rs Expanding) refl
     where
-      three : first_want rs Expanding ≡ None → first_want rs Straying ≡ None → (o : Option Turn) → first_want rs Shifting ≡ o → Seen (or_else o Kept)
+      three : first_want rs Expanding ≡ None → first_want rs Straying ≡ None → (o : Option Turn) → first_want rs Shifting ≡ o → Seen P (or_else o Kept)
       three a b None c = (told_kept a b c, told_down a b c)
       three a b (Some t) c = told_first Shifting (λ i h l u t e. told_shift i a (inner_from i h u) (silent Straying i u (quiet (want_at rs Straying) fifteen b i (in_fifteen i h l))) (row rs i).axis (row rs (row rs i).up).axis refl refl t e) t c
 
-      two : first_want rs Expanding ≡ None → (o : Option Turn) → first_want rs Straying ≡ o → Seen (or_else o (or_else (first_want rs Shifting) Kept))
+      two : first_want rs Expanding ≡ None → (o : Option Turn) → first_want rs Straying ≡ o → Seen P (or_else o (or_else (first_want rs Shifting) Kept))
       two a None b = three a b (first_want rs Shifting) refl
       two a (Some t) b = told_first Straying told_stray t b
 
-      one : (o : Option Turn) → first_want rs Expanding ≡ o → Seen (or_else o (or_else (first_want rs Straying) (or_else (first_want rs Shifting) Kept)))
+      one : (o : Option Turn) → first_want rs Expanding ≡ o → Seen P (or_else o (or_else (first_want rs Straying) (or_else (first_want rs Shifting) Kept)))
       one None a = two a (first_want rs Straying) refl
       one (Some t) a = told_first Expanding (λ i h l u t e. told_expansion i (inner_from i h u) (row rs i).axis refl t e) t a
 
   pub told : Told P (turn_of rs)
   told = from (turn_of rs) seen
     where
-      from : (t : Turn) → Seen t → Told P t
+      from : (t : Turn) → Seen P t → Told P t
       from Kept h = h.0
       from Dropped (r, h, l, u, a, z) = astray r h l u a z
       from (Merge z) h = h

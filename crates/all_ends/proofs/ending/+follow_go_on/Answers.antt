@@ -11,41 +11,41 @@ use Rattle.all_ends.proofs.ending.+follow_go_on.Goals as goal
 
 pub follow-go_on-requires : goal.follow-go_on-requires
 follow-go_on-requires t c =
-    let r = ready_merged c.args.pattern c.requires c.in-Merge.z c.in-Merge.ensures.value c.merge_at.result c.merge_at.ensures in (subst (λ (n : ℕ). left_of c.merge_at.result < n) c.decreases r.0, r.1)
+    let r = ready_merged c.args.pattern (omega arith) c.requires c.in-Merge.z c.in-Merge.ensures.value c.merge_at.result c.merge_at.ensures in (subst (λ (n : ℕ). left_of c.merge_at.result < n) c.decreases r.0, r.1)
 
 pub follow-go_on-requires-in-Split : goal.follow-go_on-requires-in-Split
 follow-go_on-requires-in-Split t c =
-    let r = ready_axed c.args.pattern c.requires c.in-Split.z c.in-Split.axis c.in-Split.ensures.value c.axis_at.result c.axis_at.ensures in (subst (λ (n : ℕ). left_of c.axis_at.result < n) c.decreases r.0, r.1)
+    let r = ready_axed c.args.pattern (omega arith) c.requires c.in-Split.z c.in-Split.axis c.in-Split.ensures.value c.axis_at-plain.result c.axis_at-plain.ensures in (subst (λ (n : ℕ). left_of c.axis_at-plain.result < n) c.decreases r.0, r.1)
 
 pub follow-returns-in_err-go_on-in-Split : goal.follow-returns-in_err-go_on-in-Split
 follow-returns-in_err-go_on-in-Split t c =
     let p = err_from_is_err_and c.from_residual.result c.from_residual.ensures.1 in
     failed c.args.ends.now c.go_on-in-Split.new.ends _ _ _ _ p.1 p.2
     (subst (λ (x : List (Option Shape)). Reached c.args.ends.now x (Err c.in_err-go_on-in-Split.field-0.0) c.go_on-in-Split.new.ends)
-    (ends_split c.args.pattern c.in-Split.z c.in-Split.axis c.in-Split.ensures.value c.axis_at.result c.axis_at.ensures _ refl)
+    (ends_split c.args.pattern (omega arith) c.in-Split.z c.in-Split.axis c.in-Split.ensures.value c.axis_at-plain.result c.axis_at-plain.ensures _ refl)
     (reached_first c.args.ends.now c.go_on-in-Split.new.ends c.go_on-in-Split.new.ends _ _ _ c.in_err-go_on-in-Split.ensures))
 
 pub follow-go_on-requires-in-Split-2 : goal.follow-go_on-requires-in-Split-2
 follow-go_on-requires-in-Split-2 t c =
-    let r = ready_split c.args.pattern c.requires c.in-Split.z c.in-Split.axis c.in-Split.ensures.value c.merge_at-in-Split.result c.merge_at-in-Split.ensures in (subst (λ (n : ℕ). left_of c.merge_at-in-Split.result < n) c.decreases r.0, r.1)
+    let r = ready_split c.args.pattern (omega arith) c.requires c.in-Split.z c.in-Split.axis c.in-Split.ensures.value c.merge_at-merged.result c.merge_at-merged.ensures in (subst (λ (n : ℕ). left_of c.merge_at-merged.result < n) c.decreases r.0, r.1)
 
 pub follow-go_on-requires-in-Open : goal.follow-go_on-requires-in-Open
 follow-go_on-requires-in-Open t c =
-    let r = ready_opened c.args.pattern c.requires c.in-Open.z c.in-Open.aside c.in-Open.ensures.value c.open_at.result c.open_at.ensures in (subst (λ (n : ℕ). left_of c.open_at.result < n) c.decreases r.0, r.1)
+    let r = ready_opened c.args.pattern (omega arith) c.requires c.in-Open.z c.in-Open.aside c.in-Open.ensures.value c.open_at.result c.open_at.ensures in (subst (λ (n : ℕ). left_of c.open_at.result < n) c.decreases r.0, r.1)
 
 pub follow-loop-by-init : goal.follow-loop-by-init
 follow-loop-by-init t c = grown_none c.args.ends.now
 
 pub follow-go_on-requires-in-loop-by : goal.follow-go_on-requires-in-loop-by
 follow-go_on-requires-in-loop-by t c =
-    let r = ready_shifted c.args.pattern c.requires c.in-Shift.z c.in-Shift.upper c.in-Shift.lower c.in-Shift.ensures.value c.moves-by-items.result.now c.moves-by-items.ensures c.loop-by.by-index Up c.loop-by-test.true c.move_at.result c.move_at.ensures in (subst (λ (n : ℕ). left_of c.move_at.result < n) c.decreases r.0, r.1)
+    let r = ready_shifted c.args.pattern (omega arith) c.requires c.in-Shift.z c.in-Shift.upper c.in-Shift.lower c.in-Shift.ensures.value c.moves-by-items.result.now c.moves-by-items.ensures c.loop-by.by-index Up c.loop-by-test.true c.move_at.result c.move_at.ensures in (subst (λ (n : ℕ). left_of c.move_at.result < n) c.decreases r.0, r.1)
 
 pub follow-returns-in_err-go_on-in-Shift : goal.follow-returns-in_err-go_on-in-Shift
 follow-returns-in_err-go_on-in-Shift t c =
     let p = err_from_is_err_and c.from_residual-in_err-go_on-in-Shift.result c.from_residual-in_err-go_on-in-Shift.ensures.1 in
     failed c.args.ends.now c.go_on-in-loop-by.new.ends _ _ _ _ p.1 p.2
     (subst (λ (x : List (Option Shape)). Reached c.args.ends.now x (Err c.in_err-go_on-in-Shift.field-0.0) c.go_on-in-loop-by.new.ends)
-    (ends_shifted c.args.pattern c.in-Shift.z c.in-Shift.upper c.in-Shift.lower c.in-Shift.ensures.value c.moves-by-items.result.now c.moves-by-items.ensures)
+    (ends_shifted c.args.pattern (omega arith) c.in-Shift.z c.in-Shift.upper c.in-Shift.lower c.in-Shift.ensures.value c.moves-by-items.result.now c.moves-by-items.ensures)
     (turn_fails (shape_of c.args.pattern) c.in-Shift.z c.moves-by-items.result.now c.loop-by.by-index Up c.loop-by-test.true c.args.ends.now c.loop-by.ends c.go_on-in-loop-by.new.ends _ c.loop-by.invariant
     (subst (λ (x : Option Shape). Reached c.loop-by.ends (ends_from ends_of x) (Err c.in_err-go_on-in-Shift.field-0.0) c.go_on-in-loop-by.new.ends) c.move_at.ensures c.in_err-go_on-in-Shift.ensures)))
 
@@ -57,34 +57,34 @@ follow-loop-by-preserved t c =
 pub follow-returns-in-Kept : goal.follow-returns-in-Kept
 follow-returns-in-Kept t c =
     subst (λ (x : List (Option Shape)). Reached c.args.ends.now x c.reach.result c.reach.new.self)
-    (ap (λ (e : Option Shape). e ∷ []) (kept_end c.args.pattern c.new.result c.in-Kept.ensures.told c.new.ensures) ∙ sym (ends_kept c.args.pattern c.in-Kept.ensures.value))
+    (ap (λ (e : Option Shape). e ∷ []) (kept_end c.args.pattern c.new.result c.in-Kept.ensures.told c.new.ensures) ∙ sym (ends_kept c.args.pattern (omega arith) c.in-Kept.ensures.value))
     c.reach.ensures
 
 pub follow-returns-in-Dropped : goal.follow-returns-in-Dropped
 follow-returns-in-Dropped t c =
     subst (λ (x : List (Option Shape)). Reached c.args.ends.now x c.reach-in-Dropped.result c.reach-in-Dropped.new.self)
-    (sym (ends_dropped c.args.pattern c.in-Dropped.ensures.value)) c.reach-in-Dropped.ensures
+    (sym (ends_dropped c.args.pattern (omega arith) c.in-Dropped.ensures.value)) c.reach-in-Dropped.ensures
 
 pub follow-returns-in-Merge : goal.follow-returns-in-Merge
 follow-returns-in-Merge t c =
     subst (λ (x : List (Option Shape)). Reached c.args.ends.now x c.go_on.result c.go_on.new.ends)
-    (ends_merged c.args.pattern c.in-Merge.z c.in-Merge.ensures.value c.merge_at.result c.merge_at.ensures) c.go_on.ensures
+    (ends_merged c.args.pattern (omega arith) c.in-Merge.z c.in-Merge.ensures.value c.merge_at.result c.merge_at.ensures) c.go_on.ensures
 
 pub follow-returns-in_ok-go_on-in-Split : goal.follow-returns-in_ok-go_on-in-Split
 follow-returns-in_ok-go_on-in-Split t c =
     subst (λ (x : List (Option Shape)). Reached c.args.ends.now x c.go_on-in-Split-2.result c.go_on-in-Split-2.new.ends)
-    (ends_split c.args.pattern c.in-Split.z c.in-Split.axis c.in-Split.ensures.value c.axis_at.result c.axis_at.ensures _ c.merge_at-in-Split.ensures)
+    (ends_split c.args.pattern (omega arith) c.in-Split.z c.in-Split.axis c.in-Split.ensures.value c.axis_at-plain.result c.axis_at-plain.ensures _ c.merge_at-merged.ensures)
     (reached_then c.args.ends.now c.go_on-in-Split.new.ends c.go_on-in-Split-2.new.ends _ _ c.go_on-in-Split-2.result c.in_ok-go_on-in-Split.ensures c.go_on-in-Split-2.ensures)
 
 pub follow-returns-in-Open : goal.follow-returns-in-Open
 follow-returns-in-Open t c =
     subst (λ (x : List (Option Shape)). Reached c.args.ends.now x c.go_on-in-Open.result c.go_on-in-Open.new.ends)
-    (ends_opened c.args.pattern c.in-Open.z c.in-Open.aside c.in-Open.ensures.value c.open_at.result c.open_at.ensures) c.go_on-in-Open.ensures
+    (ends_opened c.args.pattern (omega arith) c.in-Open.z c.in-Open.aside c.in-Open.ensures.value c.open_at.result c.open_at.ensures) c.go_on-in-Open.ensures
 
 pub follow-returns-after-loop-by : goal.follow-returns-after-loop-by
 follow-returns-after-loop-by t c =
     subst (λ (x : List (Option Shape)). Grown c.args.ends.now x c.loop-by.ends)
-    (ends_shifted c.args.pattern c.in-Shift.z c.in-Shift.upper c.in-Shift.lower c.in-Shift.ensures.value c.moves-by-items.result.now c.moves-by-items.ensures)
+    (ends_shifted c.args.pattern (omega arith) c.in-Shift.z c.in-Shift.upper c.in-Shift.lower c.in-Shift.ensures.value c.moves-by-items.result.now c.moves-by-items.ensures)
     (turns_done (shape_of c.args.pattern) c.in-Shift.z c.moves-by-items.result.now c.loop-by.by-index c.loop-by-test.false c.args.ends.now c.loop-by.ends c.loop-by.invariant)
 
 pub go_on-follow-requires : goal.go_on-follow-requires

@@ -16,7 +16,7 @@ merge_into-requires c = record { low = c.requires.low; high = c.requires.high; w
 pub invariant_of-result : goal.invariant_of-result
 invariant_of-result c =
     let m = subst (λ o. MergedInto o c.args.z (second c.args.self.rows c.args.z) c.in-Some.rows) c.hang.ensures c.in-Some.ensures in
-    record { ok = moved_rooted c.args.self.rows (omega arith) c.args.self.ok c.args.z c.requires.low c.requires.high c.requires.live c.requires.below (Join c.args.step) _ m; shown = subst (λ (o : ℕ). live c.in-Some.rows o ≡ true) (sym c.redirect-output.ensures) (moved_live c.args.self.rows (omega arith) c.args.self.ok c.args.z c.requires.low c.requires.high c.requires.live c.requires.below (Join c.args.step) _ m _ c.args.self.shown); whole = omega arith }
+    record { ok = moved_rooted c.args.self.rows (omega arith) c.args.self.ok c.args.z c.requires.low c.requires.high c.requires.live c.requires.below (Join c.args.step) _ m; shown = subst (λ (o : ℕ). live c.in-Some.rows o ≡ true) (sym c.redirect-output.ensures) (moved_live c.args.self.rows (omega arith) c.args.self.ok c.args.z c.requires.low c.requires.high c.requires.live c.requires.below (Join c.args.step) _ m _ c.args.self.shown) }
 
 pub returns-in-None : goal.returns-in-None
 returns-in-None c = join_none c.args.self.rows (omega arith) c.args.self.ok c.args.z c.requires.low c.requires.high c.requires.live c.requires.below _ _ c.hang.ensures c.in-None.ensures

@@ -19,5 +19,4 @@ invariant_of-result c = record {
   shown = subst (λ (o : ℕ). live c.in-Some.rows o ≡ true) (sym c.redirect-output.ensures) (into_live c.args.self.rows _ c.args.z _ c.in-Some.ensures
       (up_apart c.args.self.rows (omega arith) c.args.self.ok c.args.z c.requires.low c.requires.high c.requires.live)
       (up_live c.args.self.rows (omega arith) c.args.self.ok c.args.z c.requires.low c.requires.high c.requires.live) c.args.self.output c.args.self.shown);
-  whole = omega arith;
 }

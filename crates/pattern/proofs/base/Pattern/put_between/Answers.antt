@@ -14,4 +14,4 @@ hang-rows-requires c = y_high c.args.self.rows (omega arith) c.args.self.ok c.ar
 pub invariant_of-result : goal.invariant_of-result
 invariant_of-result c =
     let e = c.hang-rows.ensures ∙ ap (λ o. rehung o (row c.args.self.rows c.args.z).up c.args.z (Along c.args.then)) c.hang.ensures in
-    record { ok = moved_rooted c.args.self.rows (omega arith) c.args.self.ok c.args.z c.requires.low c.requires.high c.requires.live c.requires.below (Between c.args.first c.args.then) _ e; shown = moved_live c.args.self.rows (omega arith) c.args.self.ok c.args.z c.requires.low c.requires.high c.requires.live c.requires.below (Between c.args.first c.args.then) _ e _ c.args.self.shown; whole = omega arith }
+    record { ok = moved_rooted c.args.self.rows (omega arith) c.args.self.ok c.args.z c.requires.low c.requires.high c.requires.live c.requires.below (Between c.args.first c.args.then) _ e; shown = moved_live c.args.self.rows (omega arith) c.args.self.ok c.args.z c.requires.low c.requires.high c.requires.live c.requires.below (Between c.args.first c.args.then) _ e _ c.args.self.shown }

@@ -8,4 +8,4 @@ bounds-self-row c = y_high c.args.self.rows (omega arith) c.args.self.ok c.args.
 
 pub invariant_of-result : goal.invariant_of-result
 invariant_of-result c =
-    record { ok = moved_rooted c.args.self.rows (omega arith) c.args.self.ok c.args.z c.requires.low c.requires.high c.requires.live c.requires.below Up _ c.hang-rows.ensures; shown = moved_live c.args.self.rows (omega arith) c.args.self.ok c.args.z c.requires.low c.requires.high c.requires.live c.requires.below Up _ c.hang-rows.ensures _ c.args.self.shown; whole = omega arith }
+    record { ok = moved_rooted c.args.self.rows (omega arith) c.args.self.ok c.args.z c.requires.low c.requires.high c.requires.live c.requires.below Up _ c.hang-rows.ensures; shown = moved_live c.args.self.rows (omega arith) c.args.self.ok c.args.z c.requires.low c.requires.high c.requires.live c.requires.below Up _ c.hang-rows.ensures _ c.args.self.shown }

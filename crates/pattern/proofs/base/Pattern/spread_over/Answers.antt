@@ -1,5 +1,4 @@
-use Rattle.std.proofs.Common.{◌+◌, arith, rules}
-use Rattle.std.proofs.lemmas.List.{places}
+use Rattle.std.proofs.Common.{◌+◌, arith}
 use Rattle.pattern.proofs.Spreads.{spread_rooted, spread_live}
 use Rattle.pattern.proofs.base.Pattern.spread_over.Goals as goal
 
@@ -9,5 +8,4 @@ invariant_of-result c = record {
       c.requires.live c.requires.free c.requires.spare c.args.self.ok c.requires.low;
   shown = spread_live c.args.self.rows (omega arith) c.args.z c.args.n (c.args.n + 1) c.args.aside c.requires.high c.requires.first (omega arith) (omega arith) (omega arith) (omega arith)
       c.requires.live c.requires.free c.requires.spare c.args.self.output c.args.self.shown;
-  whole = search (rules, places);
 }

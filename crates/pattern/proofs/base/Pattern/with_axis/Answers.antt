@@ -13,4 +13,4 @@ hang-rows-requires c = (inner_parts c.args.self.rows c.args.z (omega arith) (sym
 pub invariant_of-result : goal.invariant_of-result
 invariant_of-result c =
     let l = (inner_parts c.args.self.rows c.args.z (omega arith) (sym c.is_inner.ensures ∙ c.if-not-is_inner.false)).1 in
-    record { ok = subst (λ (rs : List Row). rooted rs ≡ true) (sym c.hang-rows.ensures) (axed_rooted c.args.self.rows c.args.z c.args.axis (omega arith) l c.args.self.ok); shown = subst (λ (rs : List Row). live rs c.args.self.output ≡ true) (sym c.hang-rows.ensures) (hung_live c.args.self.rows c.args.z _ c.args.axis (omega (arith, l)) c.args.self.output ∙ c.args.self.shown); whole = omega arith }
+    record { ok = subst (λ (rs : List Row). rooted rs ≡ true) (sym c.hang-rows.ensures) (axed_rooted c.args.self.rows c.args.z c.args.axis (omega arith) l c.args.self.ok); shown = subst (λ (rs : List Row). live rs c.args.self.output ≡ true) (sym c.hang-rows.ensures) (hung_live c.args.self.rows c.args.z _ c.args.axis (omega (arith, l)) c.args.self.output ∙ c.args.self.shown) }
