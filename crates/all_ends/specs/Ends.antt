@@ -69,7 +69,7 @@ by_move s z (Join a) = merge_into (shaped (rehung s.rows (row s.rows z).up (seco
 unfoldable pub move_at : Shape → ℕ → Move → Option Shape
 move_at s z m = cond (deep s.rows z) (by_move s z m) None
 
--- what a turn puts in the place of a pattern, in order; none where two tests have no place in common
+-- what a turn puts in the place of a pattern, in order; none where two tests have no place in common, or there is no such row or no room
 unfoldable pub alternatives : Shape → Turn → List (Option Shape)
 alternatives s Kept = []
 alternatives s Dropped = []
@@ -112,7 +112,7 @@ kept_of (Some s ∷ es) = s ∷ kept_of es
 unfoldable pub question_ends : List Pattern → List (Option Shape)
 question_ends sources = each (λ P. ends_of (shape_of P)) sources
 
--- a row in use that expansion reaches over two new rows
+-- an axis for which expansion puts in two new rows
 abbrev pub widens : Axis → Bool
 widens (Along s) = false
 widens (Against s) = false
@@ -122,6 +122,7 @@ widens (Wide AncestorOrSelf) = false
 widens (Wide Following) = true
 widens (Wide Preceding) = true
 
+-- a row in use that expansion reaches over two new rows
 abbrev pub to_open : Row → Bool
 to_open r = r.used && widens r.axis
 

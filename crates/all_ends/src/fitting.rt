@@ -43,7 +43,8 @@ fn openings(rows: &[Row; 16]) -> u8
     number
 }
 
-// Whether the new rows still have numbers, and a path for the expanded pattern has at most 15 rows.
+// Whether the new rows still have numbers, and a path for the expanded pattern has at most 15 rows. That there are sixteen rows is part of
+// what is promised, and needs no test.
 fn is_fit(pattern: Pattern) -> bool
     ensures { result ≡ fits (shape_of pattern) }
 {

@@ -10,7 +10,7 @@ use refusal::{Cause, Refusal};
 use std::alloc::Global;
 
 // Follows the patterns of a question to their ends by the rules, one pattern after another. Refused are a pattern that has no room to be
-// expanded, and more than 64 ends. The kept ends have together exactly the ways of the patterns, at every place of every record.
+// expanded, more than 64 ends, and want of memory. The kept ends have together exactly the ways of the patterns, at every place of every record.
 pub fn rewrite(heap: Global, sources: &[Pattern]) -> Result<Ends, Refusal>
     ensures exact { Outcome sources.now result }
     ensures faithful { IfOk result (λ ends. Faithful sources.now ends.kept.items) }
