@@ -13,7 +13,7 @@ use Rattle.ways.specs.Rewriting.{Every}
 use Rattle.pattern.specs.Rows.{all_along}
 use Rattle.pattern.specs.declared.base.Pattern.{Pattern}
 use Rattle.pattern.specs.declared.forward.Forward.{Forward}
-use Rattle.all_ends.specs.Ends.{Shape, shape_of, merge_at, axis_at, open_at, move_at, alternatives, ends_from, by_turn, ends_of, Short, ShortRest}
+use Rattle.all_ends.specs.Ends.{Shape, shape_of, merge_at, axis_at, open_at, move_at, alternatives, ends_from, by_turn, ends_of}
 use Rattle.all_ends.specs.Reached.{forward_shape, Grown, Reached}
 use Rattle.rewrite.specs.Turns.{turn_of}
 use Rattle.all_ends.specs.declared.base.Ends.{Ends}
@@ -24,7 +24,6 @@ use Rattle.all_ends.proofs.Changed.{good_pattern}
 use Rattle.all_ends.proofs.Falling.{Less, alternatives_less}
 use Rattle.all_ends.proofs.Measures.{turns_left}
 use Rattle.all_ends.proofs.Rules.{by_the_rules}
-use Rattle.all_ends.proofs.Shorter.{alternatives_short}
 
 -- the ends by some of the moves
 abbrev pub by_moves : Shape → ℕ → List Move → List (Option Shape)
@@ -73,10 +72,6 @@ module _ (P : Pattern) (len : length P.rows ≡ 16) where
   unfolding by_turn alternatives
   ends_shifted z upper lower e ms h = ap (by_moves s z) h ∙ sym (by_its_turn (Shift z upper lower) e ∙ each_map (move_at s z) (table upper lower))
 
-  -- every alternative is short
-  short_at : Short s → (t : Turn) → t ≡ turn_of P.rows → Every ShortRest (alternatives s t)
-  short_at h t e = subst (λ u. Every ShortRest (alternatives s u)) (sym e) (alternatives_short s (good_pattern P len) h)
-
   -- fewer turns are left
   less_at : (t : Turn) → t ≡ turn_of P.rows → Every (Less s) (alternatives s t)
   less_at t e = subst (λ u. Every (Less s) (alternatives s u)) (sym e) (alternatives_less s (good_pattern P len))
@@ -87,37 +82,37 @@ module _ (P : Pattern) (len : length P.rows ≡ 16) where
 
   -- what going on with an alternative asks for
   abbrev Ready : Option Pattern → Type 0
-  Ready o = (left_of o < 2 * turns_left P.rows + 1) × ShortRest (option_map shape_of o)
+  Ready o = left_of o < 2 * turns_left P.rows + 1
 
-  ready : (o : Option Pattern) (x : Option Shape) → option_map shape_of o ≡ x → Less s x → ShortRest x → Ready o
-  ready o x e l h = (fewer o (subst (Less s) (sym e) l), subst ShortRest (sym e) h)
+  ready : (o : Option Pattern) (x : Option Shape) → option_map shape_of o ≡ x → Less s x → Ready o
+  ready o x e l = fewer o (subst (Less s) (sym e) l)
 
-  pub ready_merged : Short s → (z : ℕ) → Merge z ≡ turn_of P.rows → (o : Option Pattern) → option_map shape_of o ≡ merge_at s z → Ready o
+  pub ready_merged : (z : ℕ) → Merge z ≡ turn_of P.rows → (o : Option Pattern) → option_map shape_of o ≡ merge_at s z → Ready o
   unfolding alternatives
-  ready_merged k z e o h = ready o _ h (less_at (Merge z) e).0 (short_at k (Merge z) e).0
+  ready_merged z e o h = ready o _ h (less_at (Merge z) e).0
 
-  pub ready_axed : Short s → (z : ℕ) (x : Axis) → Split z x ≡ turn_of P.rows → (o : Option Pattern) → option_map shape_of o ≡ axis_at s z x → Ready o
+  pub ready_axed : (z : ℕ) (x : Axis) → Split z x ≡ turn_of P.rows → (o : Option Pattern) → option_map shape_of o ≡ axis_at s z x → Ready o
   unfolding alternatives
-  ready_axed k z x e o h = ready o _ h (less_at (Split z x) e).0 (short_at k (Split z x) e).0
+  ready_axed z x e o h = ready o _ h (less_at (Split z x) e).0
 
-  pub ready_split : Short s → (z : ℕ) (x : Axis) → Split z x ≡ turn_of P.rows → (o : Option Pattern) → option_map shape_of o ≡ merge_at s z → Ready o
+  pub ready_split : (z : ℕ) (x : Axis) → Split z x ≡ turn_of P.rows → (o : Option Pattern) → option_map shape_of o ≡ merge_at s z → Ready o
   unfolding alternatives
-  ready_split k z x e o h = ready o _ h (less_at (Split z x) e).1.0 (short_at k (Split z x) e).1.0
+  ready_split z x e o h = ready o _ h (less_at (Split z x) e).1.0
 
-  pub ready_opened : Short s → (z : ℕ) (x : Axis) → Open z x ≡ turn_of P.rows → (o : Option Pattern) → option_map shape_of o ≡ open_at s z x → Ready o
+  pub ready_opened : (z : ℕ) (x : Axis) → Open z x ≡ turn_of P.rows → (o : Option Pattern) → option_map shape_of o ≡ open_at s z x → Ready o
   unfolding alternatives
-  ready_opened k z x e o h = ready o _ h (less_at (Open z x) e).0 (short_at k (Open z x) e).0
+  ready_opened z x e o h = ready o _ h (less_at (Open z x) e).0
 
   every_at : (F : Option Shape → Type 0) (f : Move → Option Shape) (ms : List Move) (i : ℕ) (d : Move) → i < length ms → Every F (map f ms) → F (f (get_or ms i d))
   every_at F f [] i d l h = absurd (omega arith)
   every_at F f (m ∷ ms) zero d l h = h.0
   every_at F f (m ∷ ms) (suc i) d l h = every_at F f ms i d (omega arith) h.1
 
-  pub ready_shifted : Short s → (z : ℕ) (upper lower : Step) → Shift z upper lower ≡ turn_of P.rows → (ms : List Move) → ms ≡ table upper lower → (i : ℕ) (d : Move) → i < length ms →
+  pub ready_shifted : (z : ℕ) (upper lower : Step) → Shift z upper lower ≡ turn_of P.rows → (ms : List Move) → ms ≡ table upper lower → (i : ℕ) (d : Move) → i < length ms →
       (o : Option Pattern) → option_map shape_of o ≡ move_at s z (get_or ms i d) → Ready o
   unfolding alternatives
-  ready_shifted k z upper lower e ms f i d l o h =
-      ready o _ h (at (Less s) (less_at (Shift z upper lower) e)) (at ShortRest (short_at k (Shift z upper lower) e))
+  ready_shifted z upper lower e ms f i d l o h =
+      ready o _ h (at (Less s) (less_at (Shift z upper lower) e))
     where
       at : (F : Option Shape → Type 0) → Every F (map (move_at s z) (table upper lower)) → F (move_at s z (get_or ms i d))
       at F g = every_at F (move_at s z) ms i d l (subst (λ x. Every F (map (move_at s z) x)) (sym f) g)

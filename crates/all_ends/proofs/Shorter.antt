@@ -1,8 +1,8 @@
 -- No alternative wants a longer path than its pattern does when that is expanded, or it is dropped at once.
-use Rattle.std.proofs.Common.{◌≡◌, ℕ, ◌+◌, ◌*◌, ◌<◌, ◌≤◌, Bool, true, false, cond, ◌&&◌, eqb, ltb, ◌⊎◌, List, [], ◌∷◌, length, Some, None, Option, sym, refl, ap, ◌∙◌, subst, ap₂, inl, inr, arith}
+use Rattle.std.proofs.Common.{◌≡◌, ℕ, ◌+◌, ◌*◌, ◌<◌, ◌≤◌, Bool, true, false, cond, ◌&&◌, eqb, ltb, ◌⊎◌, List, [], ◌∷◌, length, Some, None, Option, sym, refl, ap, ◌∙◌, ap₂, inl, inr, arith}
 use mathlib.Core.Path.{fun_ext}
 use Rattle.std.proofs.lemmas.List.{length-set}
-use Rattle.std.proofs.lemmas.Bool.{cases_eq, eq-eqb, ne_eqb, eqb-true, leb-true, and_parts}
+use Rattle.std.proofs.lemmas.Bool.{cases_eq, eq-eqb, ne_eqb, eqb-true, and_parts}
 use Rattle.record.specs.Moves.{table, bit}
 use Rattle.record.specs.declared.axis.Step.{Step}
 use Rattle.record.specs.declared.axis.Axis.{Axis}
@@ -13,19 +13,19 @@ use Rattle.ways.specs.Rewriting.{Every, strays}
 use Rattle.ways.specs.Ways.{In}
 use Rattle.ways.proofs.RowSums.{upd_same, upd_other}
 use Rattle.pattern.specs.Rows.{row, fifteen, inner, deep, room, hung, second, rehung, spread, MovedTo, moved_output}
-use Rattle.pattern.specs.Sizes.{how_many, in_use, at_top, forks, path_rows}
+use Rattle.pattern.specs.Sizes.{how_many, in_use, at_top, forks}
 use Rattle.pattern.specs.declared.row.Row.{Row}
 use Rattle.pattern.proofs.MergedRows.{up_within, up_apart}
 use Rattle.pattern.proofs.Moved.{inner_parts, deep_parts, room_parts, y_high, y_used, hung_used, hung_up, hung_axis, upd_id}
 use Rattle.pattern.proofs.Trees.{in_fifteen}
-use Rattle.all_ends.specs.Ends.{Shape, shaped, merge_into, merge_at, axis_at, next_number, open_at, by_move, move_at, alternatives, to_open, expanded_rows, fits, Short, ShortRest}
+use Rattle.all_ends.specs.Ends.{Shape, shaped, merge_into, merge_at, axis_at, next_number, open_at, by_move, move_at, alternatives, to_open, expanded_rows, fits}
 use Rattle.rewrite.specs.Turns.{first_some, expansion_by, turn_of}
 use Rattle.rewrite.specs.declared.turns.Turn.{Turn}
 use Rattle.rewrite.specs.declared.turns.Turn.TheVariants.{Kept, Dropped, Merge, Split, Open, Shift}
 use Rattle.all_ends.proofs.Changed.{Good, pattern_with, MergeKnown, merge_known, MoveKnown, move_known}
 use Rattle.all_ends.proofs.Changes.{used_only, rehung_weigh, merged_weigh, spread_weigh, gone, come, moved_weigh}
 use Rattle.all_ends.proofs.Counts.{weigh, weigh_cong, how_many_weigh}
-use Rattle.all_ends.proofs.Falling.{every_map, every_imp}
+use Rattle.all_ends.proofs.Falling.{every_map}
 use Rattle.all_ends.proofs.Rooms.{opening, openings, count_openings, bit_and}
 use Rattle.rewrite.proofs.Telling.{Seen, seen, expansion_at, straying_at, first_expansion, first_straying}
 
@@ -268,25 +268,7 @@ alternatives_no_longer s g = go (turn_of s.rows) (seen (pattern_with s g) g.whol
         (opened_longer s g z x d c, tt)
     go (Shift z upper lower) ((d, a, b), n) = every_map (NoLonger s) (move_at s z) (table upper lower) (moved_longer s g z d upper lower a b n)
 
--- so, where a path is short enough, it is so for every alternative that is not dropped at once
-pub alternatives_short : (s : Shape) (g : Good s) → Short s → Every ShortRest (alternatives s (turn_of s.rows))
-alternatives_short s g (inl l) = every_imp (NoLonger s) ShortRest _ one (alternatives_no_longer s g)
-  where
-    one : (o : Option Shape) → NoLonger s o → ShortRest o
-    one None h = tt
-    one (Some q) (r, inl h) = inl (omega arith)
-    one (Some q) (r, inr h) = inr h
-alternatives_short s g (inr e) = subst (λ t. Every ShortRest (alternatives s t)) (sym e) (unfold alternatives in tt)
-
--- what is kept is short
-pub kept_short : (s : Shape) → Short s → Kept ≡ turn_of s.rows → path_rows s.rows s.output ≤ 15
-kept_short s (inl l) e = omega arith
-kept_short s (inr d) e = let k : Kept ≡ Dropped = e ∙ d in let z : ◌≡◌ {A = ℕ} 0 1 = cc in absurd (omega arith)
-
-pub fits_short : (s : Shape) → fits s ≡ true → Short s
-unfolding fits
-fits_short s e = inl (leb-true (expanded_rows s) 15 (and_parts _ _ (and_parts _ _ e).1).1)
-
+-- a pattern that fits has sixteen rows
 pub fits_whole : (s : Shape) → fits s ≡ true → length s.rows ≡ 16
 unfolding fits
 fits_whole s e = eqb-true (length s.rows) 16 (and_parts _ _ e).0

@@ -1,5 +1,5 @@
 -- The ends of a pattern by the rules, as a list in the order in which they are reached.
-use Rattle.std.specs.Prelude.{◌≡◌, ℕ, zero, suc, ◌+◌, ◌*◌, ◌≤◌, Bool, true, false, cond, ◌&&◌, ◌⊎◌, List, [], ◌∷◌, map, length, Some, None, Option, ◌==◌, nat_le}
+use Rattle.std.specs.Prelude.{ℕ, zero, suc, ◌+◌, ◌*◌, Bool, true, false, cond, ◌&&◌, List, [], ◌∷◌, map, length, Some, None, Option, ◌==◌, nat_le}
 use Rattle.std.specs.List.{range_with_len, flat_map as each}
 use Rattle.std.specs.Option.{option_map}
 use Rattle.record.specs.Moves.{table}
@@ -133,11 +133,3 @@ expanded_rows s = path_rows s.rows s.output + 2 * how_many to_open s.rows
 -- there are sixteen rows; the two new rows of every row by following or preceding still have numbers; and a path has at most 15 rows then
 unfoldable pub fits : Shape → Bool
 fits s = (length s.rows == 16) && (nat_le (next_number s.rows + 2 * how_many to_open s.rows) 16 && nat_le (expanded_rows s) 15)
-
--- a path for it has at most 15 rows when it is expanded, or it is dropped at once
-abbrev pub Short : Shape → Type 0
-Short s = (expanded_rows s ≤ 15) ⊎ (turn_of s.rows ≡ Dropped)
-
-abbrev pub ShortRest : Option Shape → Type 0
-ShortRest None = Unit {0}
-ShortRest (Some s) = Short s

@@ -1,7 +1,7 @@
 // A pattern followed to its ends, by the rules.
 ghost use Rattle.std.specs.Prelude.{◌≡◌, [], ◌∷◌};
 ghost use Rattle.std.specs.Option.{option_map};
-ghost use Rattle.all_ends.specs.Ends.{shape_of, ends_from, ends_of, Short, ShortRest};
+ghost use Rattle.all_ends.specs.Ends.{shape_of, ends_from, ends_of};
 ghost use Rattle.all_ends.specs.Reached.{forward_shape, Reached};
 
 use crate::alternatives::{axis_at, merge_at, move_at, open_at};
@@ -65,7 +65,6 @@ impl Ends {
 // Goes on with an alternative; one that is not there is a dropped end.
 #[cycle(follow_go_on)]
 fn go_on(alternative: Option<Pattern>, ends: &mut Ends) -> Result<(), Refusal>
-    requires { ShortRest (option_map shape_of alternative) }
     ensures { Reached ends.old (ends_from ends_of (option_map shape_of alternative)) result ends.new }
 {
     match alternative {
@@ -77,7 +76,6 @@ fn go_on(alternative: Option<Pattern>, ends: &mut Ends) -> Result<(), Refusal>
 // Follows the pattern to its ends, each alternative with its own copy of the pattern and finished before the next.
 #[cycle(follow_go_on)]
 pub(crate) fn follow(pattern: Pattern, ends: &mut Ends) -> Result<(), Refusal>
-    requires { Short (shape_of pattern) }
     ensures { Reached ends.old (ends_of (shape_of pattern)) result ends.new }
 {
     match next_turn(pattern) {

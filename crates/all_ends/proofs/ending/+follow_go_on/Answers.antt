@@ -1,9 +1,7 @@
 use Rattle.std.proofs.Common.{ℕ, ◌<◌, List, [], ◌∷◌, Err, Option, sym, refl, ap, ◌∙◌, subst, arith}
-use Rattle.std.specs.Option.{option_map}
 use Rattle.std.proofs.lemmas.Result.{err_from_is_err_and}
 use Rattle.record.specs.declared.rules.Move.TheVariants.{Up}
-use Rattle.pattern.specs.declared.base.Pattern.{Pattern}
-use Rattle.all_ends.specs.Ends.{Shape, shape_of, ends_from, ends_of, ShortRest}
+use Rattle.all_ends.specs.Ends.{Shape, shape_of, ends_from, ends_of}
 use Rattle.all_ends.specs.Reached.{Grown, Reached}
 use Rattle.all_ends.proofs.Accounts.{grown_none}
 use Rattle.all_ends.proofs.Followed.{left_of, ends_kept, ends_dropped, ends_merged, ends_split, ends_opened, ends_shifted, ready_merged, ready_axed, ready_split, ready_opened, ready_shifted, reached_first, reached_then, turn_more, turn_fails, turns_done, kept_end, failed}
@@ -11,11 +9,11 @@ use Rattle.all_ends.proofs.ending.+follow_go_on.Goals as goal
 
 pub follow-go_on-requires : goal.follow-go_on-requires
 follow-go_on-requires t c =
-    let r = ready_merged c.args.pattern (omega arith) c.requires c.in-Merge.z c.in-Merge.ensures.value c.merge_at.result c.merge_at.ensures in (subst (λ (n : ℕ). left_of c.merge_at.result < n) c.decreases r.0, r.1)
+    (subst (λ (n : ℕ). left_of c.merge_at.result < n) c.decreases (ready_merged c.args.pattern (omega arith) c.in-Merge.z c.in-Merge.ensures.value c.merge_at.result c.merge_at.ensures), tt)
 
 pub follow-go_on-requires-in-Split : goal.follow-go_on-requires-in-Split
 follow-go_on-requires-in-Split t c =
-    let r = ready_axed c.args.pattern (omega arith) c.requires c.in-Split.z c.in-Split.axis c.in-Split.ensures.value c.axis_at-plain.result c.axis_at-plain.ensures in (subst (λ (n : ℕ). left_of c.axis_at-plain.result < n) c.decreases r.0, r.1)
+    (subst (λ (n : ℕ). left_of c.axis_at-plain.result < n) c.decreases (ready_axed c.args.pattern (omega arith) c.in-Split.z c.in-Split.axis c.in-Split.ensures.value c.axis_at-plain.result c.axis_at-plain.ensures), tt)
 
 pub follow-returns-in_err-go_on-in-Split : goal.follow-returns-in_err-go_on-in-Split
 follow-returns-in_err-go_on-in-Split t c =
@@ -27,18 +25,18 @@ follow-returns-in_err-go_on-in-Split t c =
 
 pub follow-go_on-requires-in-Split-2 : goal.follow-go_on-requires-in-Split-2
 follow-go_on-requires-in-Split-2 t c =
-    let r = ready_split c.args.pattern (omega arith) c.requires c.in-Split.z c.in-Split.axis c.in-Split.ensures.value c.merge_at-merged.result c.merge_at-merged.ensures in (subst (λ (n : ℕ). left_of c.merge_at-merged.result < n) c.decreases r.0, r.1)
+    (subst (λ (n : ℕ). left_of c.merge_at-merged.result < n) c.decreases (ready_split c.args.pattern (omega arith) c.in-Split.z c.in-Split.axis c.in-Split.ensures.value c.merge_at-merged.result c.merge_at-merged.ensures), tt)
 
 pub follow-go_on-requires-in-Open : goal.follow-go_on-requires-in-Open
 follow-go_on-requires-in-Open t c =
-    let r = ready_opened c.args.pattern (omega arith) c.requires c.in-Open.z c.in-Open.aside c.in-Open.ensures.value c.open_at.result c.open_at.ensures in (subst (λ (n : ℕ). left_of c.open_at.result < n) c.decreases r.0, r.1)
+    (subst (λ (n : ℕ). left_of c.open_at.result < n) c.decreases (ready_opened c.args.pattern (omega arith) c.in-Open.z c.in-Open.aside c.in-Open.ensures.value c.open_at.result c.open_at.ensures), tt)
 
 pub follow-loop-by-init : goal.follow-loop-by-init
 follow-loop-by-init t c = grown_none c.args.ends.now
 
 pub follow-go_on-requires-in-loop-by : goal.follow-go_on-requires-in-loop-by
 follow-go_on-requires-in-loop-by t c =
-    let r = ready_shifted c.args.pattern (omega arith) c.requires c.in-Shift.z c.in-Shift.upper c.in-Shift.lower c.in-Shift.ensures.value c.moves-by-items.result.now c.moves-by-items.ensures c.loop-by.by-index Up c.loop-by-test.true c.move_at.result c.move_at.ensures in (subst (λ (n : ℕ). left_of c.move_at.result < n) c.decreases r.0, r.1)
+    (subst (λ (n : ℕ). left_of c.move_at.result < n) c.decreases (ready_shifted c.args.pattern (omega arith) c.in-Shift.z c.in-Shift.upper c.in-Shift.lower c.in-Shift.ensures.value c.moves-by-items.result.now c.moves-by-items.ensures c.loop-by.by-index Up c.loop-by-test.true c.move_at.result c.move_at.ensures), tt)
 
 pub follow-returns-in_err-go_on-in-Shift : goal.follow-returns-in_err-go_on-in-Shift
 follow-returns-in_err-go_on-in-Shift t c =
@@ -88,4 +86,4 @@ follow-returns-after-loop-by t c =
     (turns_done (shape_of c.args.pattern) c.in-Shift.z c.moves-by-items.result.now c.loop-by.by-index c.loop-by-test.false c.args.ends.now c.loop-by.ends c.loop-by.invariant)
 
 pub go_on-follow-requires : goal.go_on-follow-requires
-go_on-follow-requires t c = (let e = ap left_of c.in-Some.is in omega (arith, c.decreases, e), subst (λ (o : Option Pattern). ShortRest (option_map shape_of o)) c.in-Some.is c.requires)
+go_on-follow-requires t c = (let e = ap left_of c.in-Some.is in omega (arith, c.decreases, e), tt)

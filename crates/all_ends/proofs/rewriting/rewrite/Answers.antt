@@ -1,20 +1,14 @@
 use Rattle.std.proofs.Common.{Err, sym, subst}
 use Rattle.std.proofs.lemmas.Result.{err_from_is_err_and}
 use Rattle.pattern.specs.declared.base.Pattern.{Pattern}
-use Rattle.all_ends.specs.Ends.{shape_of, ends_of, Short}
+use Rattle.all_ends.specs.Ends.{shape_of, ends_of}
 use Rattle.all_ends.specs.Reached.{Grown, Reached}
 use Rattle.all_ends.proofs.Faithfulness.{faithful}
-use Rattle.all_ends.proofs.Shorter.{fits_short}
-use Rattle.all_ends.proofs.Sources.{fits_each, finished_none, finished_more, finished_fails, finished_all, outcome_ends, outcome_fails, none_made}
+use Rattle.all_ends.proofs.Sources.{finished_none, finished_more, finished_fails, finished_all, outcome_ends, outcome_fails, none_made}
 use Rattle.all_ends.proofs.rewriting.rewrite.Goals as goal
 
 pub loop-source-init : goal.loop-source-init
 loop-source-init c = finished_none c.args.sources.now c.none-ends.result c.none-ends.ensures.number c.none-ends.ensures.kept
-
-pub follow-requires : goal.follow-requires
-follow-requires c =
-    subst (λ (P : Pattern). Short (shape_of P)) (sym c.source-item.is)
-    (fits_short _ (fits_each c.args.sources.now (sym c.if-not-all_fit.ensures) c.loop-source.source-index c.source-item.result c.loop-source-test.true))
 
 pub returns-in_err-follow : goal.returns-in_err-follow
 returns-in_err-follow c =
