@@ -6,27 +6,18 @@ use crate::cause::Cause;
 use crate::refusing::Refusal;
 use std::alloc::{AllocError, AllocFailed};
 
-fn no_memory() -> Refusal
-    ensures { result ≡ no_memory }
-{
-    Refusal {
-        cause: Cause::NoMemory,
-        position: 0,
-    }
-}
-
 impl From<AllocError> for Refusal {
     ghost from_gives = { λ _ r. r ≡ no_memory };
 
     fn from(_value: AllocError) -> Refusal {
-        no_memory()
+        Refusal::from(Cause::NoMemory)
     }
 }
 
 impl<T: Drop> From<AllocFailed<T>> for Refusal {
     ghost from_gives = { λ _ r. r ≡ no_memory };
 
-    fn from(_value: AllocFailed<T>) -> Refusal {
-        no_memory()
+    fn from(value: AllocFailed<T>) -> Refusal {
+        Refusal::from(AllocError::from(value))
     }
 }

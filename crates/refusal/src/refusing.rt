@@ -1,8 +1,9 @@
 // A refusal: its cause, and the position that it speaks of.
-ghost use Rattle.std.specs.Prelude.{Some};
+ghost use Rattle.std.specs.Prelude.{◌≡◌, Some};
 ghost use Rattle.refusal.specs.Texts.{reply_of};
 
 use crate::cause::Cause;
+use std::error::Error;
 use std::fmt;
 
 // The position is a byte of the text from 0, the number of a name from 1, or 0.
@@ -10,6 +11,15 @@ use std::fmt;
 pub struct Refusal {
     pub cause: Cause,
     pub position: usize,
+}
+
+// A cause alone speaks of no position, which is 0.
+impl From<Cause> for Refusal {
+    ghost from_gives = { λ c r. r ≡ record { cause = c; position = 0 } };
+
+    fn from(cause: Cause) -> Refusal {
+        Refusal { cause, position: 0 }
+    }
 }
 
 // The reply line: `no NUMBER POSITION`.
@@ -22,3 +32,5 @@ impl fmt::Display for Refusal {
         write!(f, "no {number} {position}")
     }
 }
+
+impl Error for Refusal {}

@@ -42,7 +42,6 @@ impl fmt::Display for Cause {
     ghost output = { λ c. Some (words_of c) };
 
     fn fmt<W: fmt::Write>(&self, f: &mut fmt::Formatter<W>) -> fmt::Result {
-        let text = words(*self);
-        write!(f, "{text}")
+        f.write_str(words(*self))
     }
 }
