@@ -1,13 +1,15 @@
 -- Labels and names are inverse to each other.
-use Rattle.std.proofs.Common.{◌≡◌, ℕ, zero, suc, ◌+◌, ◌-◌, ◌<◌, ◌≤◌, true, false, ◌⊎◌, List, [], ◌∷◌, length, get_or, Some, None, Option, sym, refl, ap, ◌∙◌, subst, inl, inr, add-one, arith}
+use Rattle.std.proofs.Common.{◌≡◌, ℕ, zero, suc, ◌+◌, ◌-◌, ◌<◌, ◌≤◌, true, false, List, [], ◌∷◌, length, get_or, take, drop, Some, None, Option, IfSome, Bor, sym, refl, ap, ◌∙◌, subst, inl, inr, add-one, arith, rules}
 use Rattle.std.specs.List.{slice_get}
+use Rattle.std.specs.Option.{option_map}
 use Rattle.std.specs.Str.{bytes_eq}
+use Rattle.std.proofs.lemmas.List.{same_lists, places}
 use Rattle.std.proofs.lemmas.Slice.Eq.{bytes_eq-Decides}
 use Rattle.std.proofs.lemmas.Option.{slice_get-get_or, slice_get_past}
 use Rattle.std.proofs.lemmas.Bool.{cases_Bool, cases_lt, cond-true, cond-false}
 use Rattle.glossary.specs.Checks.{First, NoneOf}
 use Rattle.glossary.specs.Format.{GoodNames}
-use Rattle.glossary.specs.Layout.{name_at, listed}
+use Rattle.glossary.specs.Layout.{start, name_at, listed}
 use Rattle.glossary.specs.Names.{name_of, label_of, next_label}
 use Rattle.glossary.proofs.Readback.{length_listed, getD_listed}
 
@@ -92,13 +94,19 @@ module _ (block : List ℕ) (n : ℕ) where
         λ j h e. f.2 j h (sym (getD_listed block n j (omega (arith, h, f.0))) ∙ e),
       )
 
-  pub listed_no_name : (l : ℕ) → (l ≡ 0) ⊎ (n < l) → name_of (listed block n) l ≡ None
-  listed_no_name zero h = refl
-  listed_no_name (suc k) (inl e) = absurd (omega (arith, e))
-  listed_no_name (suc k) (inr h) = slice_get_past (listed block n) k (omega (arith, h, length_listed block n))
+pub name_of_later : (names : List (List ℕ)) (l : ℕ) → 1 ≤ l → name_of names l ≡ slice_get names (l - 1)
+name_of_later names zero h = absurd (omega arith)
+name_of_later names (suc k) h = let z : suc k - 1 ≡ k = omega arith in rw z refl
 
-  pub listed_name : (l : ℕ) → (l ≡ 0 → ⊥) → l ≤ n → name_of (listed block n) l ≡ Some (name_at block (l - 1))
-  listed_name zero f h = absurd (f refl)
-  listed_name (suc k) f h =
-      let z : suc k - 1 ≡ k = omega arith in
-      slice_get-get_or (listed block n) k [] (omega (arith, h, length_listed block n)) ∙ ap Some (getD_listed block n k (omega (arith, h)) ∙ ap (name_at block) (sym z))
+-- a part is known by where it begins and by its own length
+part_by_length : (xs ys : List ℕ) (n : ℕ) → ys ≡ take n xs → ys ≡ take (length ys) xs
+part_by_length xs ys n e =
+    let P : List ℕ → Type 0 = λ zs. zs ≡ take (length zs) xs in
+    subst P (sym e) (same_lists _ _ (search (rules, places)) (λ k d h. grind (arith, places)))
+
+-- where the name k of a block stands in it
+pub place_of_name : (block : List ℕ) (n k : ℕ) (r : Option (Bor (List ℕ))) → option_map (λ x. x.now) r ≡ slice_get (listed block n) k → IfSome r (λ x. x.now ≡ take (length x.now) (drop (start block k + 1) block))
+place_of_name block n k None e = tt
+place_of_name block n k (Some x) e =
+    let p = number_of_name (listed block n) x.now k (sym e) in
+    part_by_length _ _ _ (sym p.1 ∙ getD_listed block n k (omega (arith, length_listed block n)))

@@ -1,7 +1,5 @@
-pub mod Clamps
 pub mod Inverse
 pub mod Readback
-pub mod Spelling
 pub mod Starts
 pub mod Verdicts
 pub mod Walks

@@ -1,6 +1,11 @@
 -- Entries begin one behind the other.
-use Rattle.std.proofs.Common.{◌≡◌, ℕ, zero, suc, ◌+◌, ◌-◌, ◌≤◌, List, get_or, sym, refl, subst, add-one, arith}
+use Rattle.std.proofs.Common.{◌≡◌, ℕ, zero, suc, ◌+◌, ◌-◌, ◌<◌, ◌≤◌, List, get_or, refl, inl, inr, add-one, arith}
+use Rattle.std.proofs.lemmas.Bool.{cases_lt}
 use Rattle.glossary.specs.Layout.{start}
+
+-- a number that is not above another is at most that
+pub not_above : (a b : ℕ) → (b < a → ⊥) → a ≤ b
+not_above a b f = elim (cases_lt b a) [ inl l ↦ absurd (f l) | inr l ↦ l ]
 
 pub start_more : (block : List ℕ) (k : ℕ) → start block (k + 1) ≡ start block k + (1 + get_or block (start block k) 0)
 start_more block k = rw add-one refl
@@ -14,8 +19,3 @@ start_grows block k (suc d) =
 pub starts_rise : (block : List ℕ) (j k : ℕ) → j ≤ k → start block j ≤ start block k
 starts_rise block j k h =
     let z : (k - j) + j ≡ k = omega arith in rw z at (start_grows block j (k - j))
-
--- the next entry, by where this one begins
-pub start_after : (block : List ℕ) (k a : ℕ) → a ≡ start block k → a + 1 + get_or block a 0 ≡ start block (k + 1)
-start_after block k a e =
-    subst (λ (x : ℕ). x + 1 + get_or block x 0 ≡ start block (k + 1)) (sym e) (omega (arith, start_more block k))

@@ -1,13 +1,13 @@
 -- A block has one verdict, and it passes exactly if it is the block of a list of good names.
 use Rattle.std.proofs.Common.{◌≡◌, ℕ, ◌+◌, ◌-◌, ◌<◌, ◌≤◌, List, length, Some, None, Option, sym, refl, ap, ◌∙◌, subst, inl, inr, arith}
-use Rattle.std.proofs.lemmas.Bool.{both_ways, cases_order, cases_Bool, cases_eq, cases_lt}
+use Rattle.std.proofs.lemmas.Bool.{both_ways, cases_order, cases_Bool, cases_eq}
 use Rattle.refusal.specs.declared.refusing.Refusal.{Refusal}
 use Rattle.glossary.specs.Checks.{First, NoneOf, If, IfSome}
 use Rattle.glossary.specs.Limits.{head_size, max_block, max_names}
 use Rattle.glossary.specs.Names.{good_name}
 use Rattle.glossary.specs.Format.{GoodNames, BlockOf, written}
 use Rattle.glossary.proofs.Readback.{length_listed, getD_listed, block_is_written}
-use Rattle.glossary.proofs.Starts.{starts_rise}
+use Rattle.glossary.proofs.Starts.{not_above, starts_rise}
 use Rattle.glossary.proofs.Writing.{name_at_written, end_written, listed_written}
 use Rattle.glossary.specs.Layout.{count_in, start, name_at, listed, Unsized, Cut, Overlong, Bad, Repeated, Judged}
 
@@ -74,10 +74,6 @@ passed block j =
 passes : (block : List ℕ) → Passed block → Judged block None
 passes block p =
     inr (p.sized, inr (p.whole, inr (p.ends, inr (p.formed, inr (p.distinct, refl)))))
-
--- a number that is not above another is at most that
-not_above : (a b : ℕ) → (b < a → ⊥) → a ≤ b
-not_above a b f = elim (cases_lt b a) [ inl l ↦ absurd (f l) | inr l ↦ l ]
 
 -- the sizes of a block that is neither too short nor too long
 record Sizes (block : List ℕ) : Type 0 where

@@ -1,5 +1,5 @@
 -- Checks that are made one after the other.
-use Rattle.std.specs.Prelude.{ℕ, ◌<◌, ◌⊎◌}
+use Rattle.std.specs.Prelude.{ℕ, ◌<◌, ◌⊎◌, Option, MatchOption}
 
 -- k is the first number below n of which P holds
 abbrev pub First : (ℕ → Type 0) → ℕ → ℕ → Type 0
@@ -8,6 +8,10 @@ First P n k = (k < n) × P k × ((j : ℕ) → j < k → P j → ⊥)
 -- P holds of no number below n
 abbrev pub NoneOf : (ℕ → Type 0) → ℕ → Type 0
 NoneOf P n = (k : ℕ) → k < n → P k → ⊥
+
+-- r is the first number below n of which P holds, if there is one
+abbrev pub FirstIn : (ℕ → Type 0) → ℕ → Option ℕ → Type 0
+FirstIn P n r = MatchOption r (NoneOf P n) (λ k. First P n k)
 
 -- A where P holds, and else B
 abbrev pub If : Type 0 → Type 0 → Type 0 → Type 0

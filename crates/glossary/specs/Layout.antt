@@ -1,5 +1,5 @@
 -- Where the names of a block stand, and the first check that a block fails.
-use Rattle.std.specs.Prelude.{◌≡◌, ℕ, zero, suc, ◌+◌, ◌<◌, false, ◌⊎◌, List, map, length, take, drop, Some, None, Option, slice_index}
+use Rattle.std.specs.Prelude.{◌≡◌, ℕ, zero, suc, ◌+◌, ◌<◌, false, cond, ◌⊎◌, List, [], ◌∷◌, map, length, take, drop, Some, None, Option, nat_lt, slice_index}
 use Rattle.std.specs.List.{range_with_len}
 use Rattle.refusal.specs.declared.cause.Cause.TheVariants.{BlockSize, BlockEnd, NameForm, NameTwice}
 use Rattle.refusal.specs.declared.refusing.Refusal.{Refusal}
@@ -23,6 +23,11 @@ name_at block k = take (slice_index block (start block k)) (drop (start block k 
 -- the first n names
 abbrev pub listed : List ℕ → ℕ → List (List ℕ)
 listed block n = map (name_at block) (range_with_len 0 n)
+
+-- the names in the first n entries of bytes, up to the first entry that is cut off
+abbrev pub names_in : List ℕ → ℕ → List (List ℕ)
+names_in bytes zero = []
+names_in bytes (suc n) = cond (nat_lt (length bytes) (1 + slice_index bytes 0)) [] (take (slice_index bytes 0) (drop 1 bytes) ∷ names_in (drop (1 + slice_index bytes 0) bytes) n)
 
 -- the block is empty or too long, or it counts no name or too many
 abbrev pub Unsized : List ℕ → Type 0

@@ -1,6 +1,6 @@
 -- What a name is, and what a list of names says of labels.
-use Rattle.std.specs.Prelude.{ℕ, zero, suc, Bool, true, cond, ◌&&◌, ◌||◌, List, [], ◌∷◌, length, Some, None, Option, ◌==◌, nat_le, slice_index}
-use Rattle.std.specs.List.{slice_get}
+use Rattle.std.specs.Prelude.{ℕ, zero, suc, Bool, cond, ◌&&◌, ◌||◌, List, [], ◌∷◌, length, Some, None, Option, ◌==◌, nat_le, slice_index}
+use Rattle.std.specs.List.{slice_get, list_all}
 use Rattle.std.specs.Str.{bytes_eq}
 use Rattle.glossary.specs.Limits.{max_name}
 
@@ -13,8 +13,7 @@ abbrev pub name_byte : ℕ → Bool
 name_byte b = letter b || ((nat_le 48 b && nat_le b 57) || b == 45)
 
 abbrev pub all_name_bytes : List ℕ → Bool
-all_name_bytes [] = true
-all_name_bytes (b ∷ bs) = name_byte b && all_name_bytes bs
+all_name_bytes bs = list_all name_byte bs
 
 -- 1 to 16 name bytes, a letter first
 abbrev pub good_name : List ℕ → Bool

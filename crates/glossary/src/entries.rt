@@ -1,75 +1,67 @@
-// Walks over the entries of a block.
-ghost use Rattle.std.specs.Prelude.{◌≡◌, ℕ, ◌+◌, ◌^◌, ◌<◌, ◌≤◌, false, length, MatchOption, MatchResult};
+// The entries of a block.
+ghost use Rattle.std.specs.Prelude.{◌≡◌, ◌+◌, ◌<◌, ◌≤◌, length, IfOk};
+ghost use Rattle.std.specs.Result.{IfErr};
+ghost use Rattle.refusal.specs.declared.cause.Cause.TheVariants.{BlockEnd};
 ghost use Rattle.glossary.specs.Limits.{head_size};
-ghost use Rattle.glossary.specs.Checks.{First, NoneOf};
-ghost use Rattle.glossary.specs.Layout.{start, name_at, Cut, Bad, Repeated};
+ghost use Rattle.glossary.specs.Checks.{FirstIn, NoneOf, IfSome};
+ghost use Rattle.glossary.specs.Layout.{start, name_at, listed, Cut, Bad, Repeated};
+ghost use Rattle.glossary.specs.Meaning.{names_left};
 
-use crate::cursor::Cursor;
+use crate::base::Entries;
 use crate::forms::is_name;
 use crate::limits::HEAD_SIZE;
+use crate::names::{Names, split_entry};
+use refusal::{Cause, Refusal};
 
-// Where the last of `count` entries ends, or the first entry that ends past the block's end.
-pub(crate) fn end(block: &[u8], count: u16) -> Result<usize, u16>
-    requires { head_size ≤ length block.now }
-    ensures { MatchResult result (λ at. NoneOf (Cut block.now) count × (at ≡ start block.now count) × (at ≤ length block.now)) (λ k. First (Cut block.now) count k) }
-{
-    let mut at = HEAD_SIZE;
-    for k in 0..count {
-        if at >= block.len() || block.len() - at - 1 < block[at] as usize {
-            return Err(k);
+impl<'a> Entries<'a> {
+    // The `count` entries of a block that has nothing behind them.
+    pub(crate) fn read(block: &'a [u8], count: u16) -> Result<Entries<'a>, Refusal>
+        requires { head_size ≤ length block.now }
+        ensures same { IfOk result (λ e. (e.block.now ≡ block.now) × (e.count ≡ count)) }
+        ensures filled { IfOk result (λ _. start block.now count ≡ length block.now) }
+        ensures refused { IfErr result (λ x. IfSome (Cut block.now) count (λ k. x ≡ record { cause = BlockEnd; position = k + 1 }) ((start block.now count < length block.now) × (x ≡ record { cause = BlockEnd; position = 0 }))) }
+    {
+        let mut rest = &block[HEAD_SIZE..];
+        // The loop counts, since a refusal names the entry by its number.
+        for k in 0..count {
+            (_, rest) = split_entry(rest).ok_or(Cause::BlockEnd.at(usize::from(k) + 1))?;
         }
-        at = at + 1 + block[at] as usize;
-    }
-    Ok(at)
-}
-
-// The first of `count` names that is none.
-pub(crate) fn first_bad(block: &[u8], count: u16) -> Option<u16>
-    ensures { MatchOption result (NoneOf (Bad block.now) count) (λ k. First (Bad block.now) count k) }
-{
-    let mut cursor = Cursor::new(block);
-    for k in 0..count {
-        if !is_name(cursor.next()) {
-            return Some(k);
+        if !rest.is_empty() {
+            return Err(Cause::BlockEnd.into());
         }
+        Ok(Entries { block, count })
     }
-    None
-}
 
-// The first of `count` names that is `sought`.
-pub(crate) fn find(block: &[u8], count: u16, sought: &[u8]) -> Option<u16>
-    ensures { MatchOption result (NoneOf (λ k. name_at block.now k ≡ sought.now) count) (λ k. First (λ k. name_at block.now k ≡ sought.now) count k) }
-{
-    let mut cursor = Cursor::new(block);
-    for k in 0..count {
-        if cursor.next() == sought {
-            return Some(k);
+    // The names of the entries.
+    pub(crate) fn names(&self) -> Names<'a>
+        ensures { names_left result ≡ listed self.now.block.now self.now.count }
+    {
+        Names {
+            bytes: &self.block[HEAD_SIZE..],
+            left: self.count,
         }
     }
-    None
-}
 
-// The first of `count` names that stands earlier too.
-pub(crate) fn first_repeated(block: &[u8], count: u16) -> Option<u16>
-    ensures { MatchOption result (NoneOf (Repeated block.now) count) (λ k. First (Repeated block.now) count k) }
-{
-    let mut cursor = Cursor::new(block);
-    for k in 0..count {
-        let None = find(block, k, cursor.next()) else {
-            return Some(k);
-        };
+    // The first name that is none.
+    pub(crate) fn first_bad(&self) -> Option<usize>
+        ensures { FirstIn (Bad self.now.block.now) self.now.count result }
+    {
+        self.names().position(|name| !is_name(name))
     }
-    None
-}
 
-// The name `k`, from 0.
-pub(crate) fn pick(block: &[u8], k: u16) -> &[u8]
-    requires { k + 1 < 2 ^ 16 }
-    ensures { result.now ≡ name_at block.now k }
-{
-    let mut cursor = Cursor::new(block);
-    for _ in 0..k {
-        let _ = cursor.next();
+    // The first name that is `sought`.
+    pub(crate) fn find(&self, sought: &[u8]) -> Option<usize>
+        ensures { FirstIn (λ k. name_at self.now.block.now k ≡ sought.now) self.now.count result }
+    {
+        self.names().position(|name| name == sought)
     }
-    cursor.next()
+
+    // The first name that stands earlier too.
+    pub(crate) fn first_repeated(&self) -> Option<usize>
+        ensures { FirstIn (Repeated self.now.block.now) self.now.count result }
+    {
+        self.names()
+            .enumerate()
+            .position(|(k, name)| self.find(name).is_some_and(|first| first < k))
+    }
 }

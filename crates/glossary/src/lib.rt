@@ -2,15 +2,14 @@
 #![tactic(auto)]
 
 mod base;
-mod cursor;
 mod entries;
 mod forms;
-mod labels;
 mod limits;
 mod lookup;
-mod parts;
+mod names;
 mod reading;
 
 pub use base::Glossary;
 pub use forms::is_name;
 pub use limits::{HEAD_SIZE, MAX_BLOCK, MAX_NAME, MAX_NAMES};
+pub use names::Names;

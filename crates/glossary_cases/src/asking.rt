@@ -1,60 +1,26 @@
 // What the tests ask of blocks and of lists of names.
 use crate::making::numbered;
 use glossary::Glossary;
-use name_list::write_block;
 use refusal::Refusal;
-use std::alloc::Global;
 use std::process::Abort;
 use std::test::Fail;
 
-// The refusal has that number and that position.
-fn same_refusal(
+// The answer is a refusal with that number at that position.
+pub(crate) fn refused<T: Drop>(
     rt: &impl Abort,
-    refusal: Refusal,
+    answer: Result<T, Refusal>,
+    // The number is said as a reply shows it, apart from the names that the code has for it.
     number: u8,
     position: usize,
 ) -> Result<(), Fail> {
+    let Err(refusal) = answer else {
+        panic!(rt; "accepted, expected {number} at {position}");
+    };
     assert_eq!(rt;
-        refusal.cause.number(),
-        number,
-        "expected {number} at {position}"
-    );
-    assert_eq!(rt;
-        refusal.position,
-        position,
-        "expected {number} at {position}"
+        (refusal.cause.number(), refusal.position),
+        (number, position)
     );
     Ok(())
-}
-
-// The block is refused with that number at that position.
-pub(crate) fn refused(
-    rt: &impl Abort,
-    block: &[u8],
-    number: u8,
-    position: usize,
-) -> Result<(), Fail> {
-    match Glossary::new(block) {
-        Ok(_) => panic!(rt; "the block {block:?} is accepted, expected {number} at {position}"),
-        Err(refusal) => same_refusal(rt, refusal, number, position),
-    }
-}
-
-// The list is refused with that number at that position.
-pub(crate) fn list_refused(
-    rt: &impl Abort,
-    heap: Global,
-    names: &[&[u8]],
-    number: u8,
-    position: usize,
-) -> Result<(), Fail> {
-    match write_block(heap, names) {
-        Ok(_) => panic!(rt;
-            "a list of {} names is accepted, expected {number} at {position}",
-            names.len()
-        ),
-        Err(refusal) => same_refusal(rt, refusal, number, position),
-    }
 }
 
 // The label and the name belong together.

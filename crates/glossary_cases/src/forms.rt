@@ -1,6 +1,6 @@
 // The forms of names, each asked of the name alone, of a block of that name and of a list of that name.
-use crate::asking::{front, list_refused, paired, refused};
-use crate::making::block_of_one;
+use crate::asking::{front, paired, refused};
+use crate::making::block_of;
 use glossary::{Glossary, is_name};
 use name_list::write_block;
 use std::alloc::Global;
@@ -10,7 +10,7 @@ use std::test::Fail;
 // The bytes are a name.
 fn good(rt: &impl Abort, heap: Global, name: &[u8]) -> Result<(), Fail> {
     assert!(rt; is_name(name), "{name:?} is a name");
-    let block = block_of_one(heap, name)?;
+    let block = block_of(heap, &[name])?;
     paired(rt, &Glossary::new(&block)?, 1, name)?;
     assert_eq!(rt; write_block(heap, &[name])?.as_slice(), block.as_slice());
     Ok(())
@@ -19,8 +19,8 @@ fn good(rt: &impl Abort, heap: Global, name: &[u8]) -> Result<(), Fail> {
 // The bytes are no name.
 fn bad(rt: &impl Abort, heap: Global, name: &[u8]) -> Result<(), Fail> {
     assert!(rt; !is_name(name), "{name:?} is no name");
-    refused(rt, &block_of_one(heap, name)?, 13, 1)?;
-    list_refused(rt, heap, &[name], 13, 1)
+    refused(rt, Glossary::new(&block_of(heap, &[name])?), 13, 1)?;
+    refused(rt, write_block(heap, &[name]), 13, 1)
 }
 
 #[test]

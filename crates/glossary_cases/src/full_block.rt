@@ -18,9 +18,10 @@ fn cut_anywhere(rt: HostRuntime) -> Result<(), Fail> {
     let heap = rt.alloc();
     let block = block_of(heap, &numbered_list(heap, 200)?)?;
     assert_eq!(rt; block.len(), 1001);
-    refused(&rt, front(&block, 0)?, 11, 0)?;
+    refused(&rt, Glossary::new(front(&block, 0)?), 11, 0)?;
     for size in 1..1001 {
-        refused(&rt, front(&block, size)?, 12, (size - 1) / 5 + 1)?;
+        let cut = Glossary::new(front(&block, size)?);
+        refused(&rt, cut, 12, (size - 1) / 5 + 1)?;
     }
     assert!(rt; Glossary::new(&block).is_ok());
     Ok(())
@@ -32,7 +33,7 @@ fn one_byte_more(rt: HostRuntime) -> Result<(), Fail> {
     for byte in [0, 1, b'a', u8::MAX] {
         let mut block = block_of(heap, &numbered_list(heap, 200)?)?;
         block.push(byte)?;
-        refused(&rt, &block, 12, 0)?;
+        refused(&rt, Glossary::new(&block), 12, 0)?;
     }
     Ok(())
 }
@@ -49,7 +50,7 @@ fn another_count(rt: HostRuntime) -> Result<(), Fail> {
         (255, 11, 0),
     ] {
         *block.get_mut(0).ok_or("no count")? = count;
-        refused(&rt, &block, number, position)?;
+        refused(&rt, Glossary::new(&block), number, position)?;
     }
     Ok(())
 }
@@ -59,5 +60,5 @@ fn one_name_too_many(rt: HostRuntime) -> Result<(), Fail> {
     let heap = rt.alloc();
     let block = block_of(heap, &numbered_list(heap, 201)?)?;
     assert_eq!(rt; block.len(), 1006);
-    refused(&rt, &block, 11, 0)
+    refused(&rt, Glossary::new(&block), 11, 0)
 }

@@ -1,5 +1,5 @@
 // Lists of names that become a block, and lists that have too few names or too many.
-use crate::asking::{holds_full_list, list_refused};
+use crate::asking::{holds_full_list, refused};
 use crate::making::{block_of, numbered_list, slices};
 use glossary::Glossary;
 use name_list::write_block;
@@ -18,14 +18,19 @@ fn two_names(rt: HostRuntime) -> Result<(), Fail> {
 #[test]
 fn short_lists(rt: HostRuntime) -> Result<(), Fail> {
     let heap = rt.alloc();
-    list_refused(&rt, heap, &[], 11, 0)?;
-    list_refused(&rt, heap, &[b""], 13, 1)?;
-    list_refused(&rt, heap, &[b"run", b"Bag"], 13, 2)?;
-    list_refused(&rt, heap, &[b"run", b"bag", b"9"], 13, 3)?;
-    list_refused(&rt, heap, &[b"run", b"run"], 14, 2)?;
-    list_refused(&rt, heap, &[b"run", b"bag", b"run"], 14, 3)?;
-    list_refused(&rt, heap, &[b"run", b"run", b"bag", b""], 13, 4)?;
-    list_refused(&rt, heap, &[&[b'a'; 257]], 13, 1)
+    refused(&rt, write_block(heap, &[]), 11, 0)?;
+    refused(&rt, write_block(heap, &[b""]), 13, 1)?;
+    refused(&rt, write_block(heap, &[b"run", b"Bag"]), 13, 2)?;
+    refused(&rt, write_block(heap, &[b"run", b"bag", b"9"]), 13, 3)?;
+    refused(&rt, write_block(heap, &[b"run", b"run"]), 14, 2)?;
+    refused(&rt, write_block(heap, &[b"run", b"bag", b"run"]), 14, 3)?;
+    refused(
+        &rt,
+        write_block(heap, &[b"run", b"run", b"bag", b""]),
+        13,
+        4,
+    )?;
+    refused(&rt, write_block(heap, &[&[b'a'; 257]]), 13, 1)
 }
 
 #[test]
@@ -43,7 +48,7 @@ fn too_many_names(rt: HostRuntime) -> Result<(), Fail> {
     let heap = rt.alloc();
     for count in [201, 202, 255, 256, 257, 456] {
         let names = numbered_list(heap, count)?;
-        list_refused(&rt, heap, &slices(heap, &names)?, 11, 0)?;
+        refused(&rt, write_block(heap, &slices(heap, &names)?), 11, 0)?;
     }
     Ok(())
 }

@@ -1,5 +1,6 @@
 // Names, lists and blocks for the tests, made by the rules of the format alone.
 use std::alloc::Global;
+use std::convert::AsSlice;
 use std::test::Fail;
 
 // The last digit of a number.
@@ -14,20 +15,12 @@ pub(crate) fn numbered(number: u16) -> [u8; 4] {
 
 // The names of the numbers below `count`, in their order.
 pub(crate) fn numbered_list(heap: Global, count: u16) -> Result<Vec<[u8; 4]>, Fail> {
-    let mut names = Vec::new(heap);
-    for number in 0..count {
-        names.push(numbered(number))?;
-    }
-    Ok(names)
+    Ok((0..count).map(numbered).collect(heap)?)
 }
 
 // The names as a list of slices.
 pub(crate) fn slices(heap: Global, names: &[[u8; 4]]) -> Result<Vec<&[u8]>, Fail> {
-    let mut list = Vec::new(heap);
-    for name in names {
-        list.push(name.as_slice())?;
-    }
-    Ok(list)
+    Ok(names.iter().map(|name| name.as_slice()).collect(heap)?)
 }
 
 // Adds a name behind a byte with its length.
@@ -38,19 +31,11 @@ pub(crate) fn append(block: &mut Vec<u8>, name: &[u8]) -> Result<(), Fail> {
 }
 
 // The block of a list of names, good or bad.
-pub(crate) fn block_of(heap: Global, names: &[[u8; 4]]) -> Result<Vec<u8>, Fail> {
+pub(crate) fn block_of<N: AsSlice<u8>>(heap: Global, names: &[N]) -> Result<Vec<u8>, Fail> {
     let mut block = Vec::new(heap);
     block.push(u8::try_from(names.len())?)?;
     for name in names {
-        append(&mut block, name)?;
+        append(&mut block, name.as_slice())?;
     }
-    Ok(block)
-}
-
-// The block of one name, good or bad.
-pub(crate) fn block_of_one(heap: Global, name: &[u8]) -> Result<Vec<u8>, Fail> {
-    let mut block = Vec::new(heap);
-    block.push(1)?;
-    append(&mut block, name)?;
     Ok(block)
 }

@@ -1,6 +1,8 @@
 // Lists of 200 good names in which some are replaced, so that they are refused: as a block and as a list alike.
-use crate::asking::{list_refused, refused};
+use crate::asking::refused;
 use crate::making::{block_of, numbered_list, slices};
+use glossary::Glossary;
+use name_list::write_block;
 use std::alloc::Global;
 use std::process::Abort;
 use std::test::Fail;
@@ -20,8 +22,9 @@ fn both_refused(
     number: u8,
     position: usize,
 ) -> Result<(), Fail> {
-    refused(rt, &block_of(heap, names)?, number, position)?;
-    list_refused(rt, heap, &slices(heap, names)?, number, position)
+    refused(rt, Glossary::new(&block_of(heap, names)?), number, position)?;
+    let list = slices(heap, names)?;
+    refused(rt, write_block(heap, &list), number, position)
 }
 
 // The name at the place k is `n` and the digits of k - 1.

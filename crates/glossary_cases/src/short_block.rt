@@ -48,7 +48,7 @@ fn cut_anywhere(rt: HostRuntime) -> Result<(), Fail> {
         (7, 12, 2),
         (8, 12, 2),
     ] {
-        refused(&rt, front(&BLOCK, size)?, number, position)?;
+        refused(&rt, Glossary::new(front(&BLOCK, size)?), number, position)?;
     }
     assert!(rt; Glossary::new(&BLOCK).is_ok());
     Ok(())

@@ -6,7 +6,7 @@ use std::test::Fail;
 
 #[test]
 fn no_bytes(rt: HostRuntime) -> Result<(), Fail> {
-    refused(&rt, &[], 11, 0)
+    refused(&rt, Glossary::new(&[]), 11, 0)
 }
 
 // The largest block that is accepted: 200 names of 16 bytes, 1 + 200 * 17 bytes.
@@ -35,9 +35,9 @@ fn filled_with_long_names(rt: HostRuntime) -> Result<(), Fail> {
     }
     append(&mut block, &[b'a'; 254])?;
     assert_eq!(rt; block.len(), 4096);
-    refused(&rt, &block, 13, 1)?;
+    refused(&rt, Glossary::new(&block), 13, 1)?;
     block.push(b'a')?;
-    refused(&rt, &block, 11, 0)
+    refused(&rt, Glossary::new(&block), 11, 0)
 }
 
 #[test]
@@ -46,9 +46,9 @@ fn filled_with_zeros(rt: HostRuntime) -> Result<(), Fail> {
     assert!(rt; Glossary::new(&block).is_ok());
     block.extend_from_slice(&[0; 4091])?;
     assert_eq!(rt; block.len(), 4096);
-    refused(&rt, &block, 12, 0)?;
+    refused(&rt, Glossary::new(&block), 12, 0)?;
     block.push(0)?;
-    refused(&rt, &block, 11, 0)
+    refused(&rt, Glossary::new(&block), 11, 0)
 }
 
 // What every block of more than 4096 bytes is refused with, whatever its count.
@@ -57,7 +57,7 @@ fn too_large(rt: HostRuntime) -> Result<(), Fail> {
     let mut block = [0; 4097].to_vec(rt.alloc())?;
     for count in [0, 1, 16, 200, 201, 255] {
         *block.get_mut(0).ok_or("no count")? = count;
-        refused(&rt, &block, 11, 0)?;
+        refused(&rt, Glossary::new(&block), 11, 0)?;
     }
     Ok(())
 }

@@ -29,13 +29,10 @@ fn listings(rt: HostRuntime) -> Result<(), Fail> {
     let block = [2, 3, b'r', b'u', b'n', 3, b'b', b'a', b'g'];
     let text = listing(rt.alloc(), &block)?;
     assert_eq!(rt; text.as_slice(), b"1 run\n2 bag\n9 bytes\n".as_slice());
-    match listing(rt.alloc(), &block[0..8]) {
-        Ok(_) => Err(Fail::new("the block is listed")),
-        Err(refusal) => {
-            assert_eq!(rt; refusal.cause.number(), 12);
-            Ok(())
-        },
-    }
+    let cut = listing(rt.alloc(), &block[0..8]);
+    let refusal = cut.err().ok_or("the block is listed")?;
+    assert_eq!(rt; refusal.cause.number(), 12);
+    Ok(())
 }
 
 #[test]

@@ -1,5 +1,5 @@
 // Text for a person: the rows of a block, and what is wrong with a list.
-ghost use Rattle.std.specs.Prelude.{◌≡◌, ℕ, List, ◌++◌, length, IfOk, Some, Err, string_bytes, MatchResult};
+ghost use Rattle.std.specs.Prelude.{◌≡◌, ℕ, List, ◌++◌, length, IfOk, OnOk, Some, Err, string_bytes, MatchResult};
 ghost use Rattle.refusal.specs.Memory.{no_memory};
 ghost use Rattle.glossary.specs.Format.{BlockOf};
 ghost use Rattle.glossary.specs.Layout.{Judged};
@@ -10,9 +10,9 @@ use glossary::Glossary;
 use refusal::Refusal;
 use std::alloc::{AllocError, Global};
 
-// Adds the row of one label.
-fn append_row(heap: Global, text: &mut Vec<u8>, label: u16, name: &[u8]) -> Result<(), Refusal>
-    ensures { MatchResult result (λ _. text.new.items ≡ text.old.items ++ row label name.now) (λ x. x ≡ no_memory) }
+// Adds the row of one label. A name is bytes, which no `write!` or `format!` takes.
+fn append_row(heap: Global, text: &mut Vec<u8>, label: usize, name: &[u8]) -> Result<(), AllocError>
+    ensures { OnOk result (text.new.items ≡ text.old.items ++ row label name.now) }
 {
     let label = format!(in heap; "{label} ")?;
     text.extend_from_slice(label.as_bytes())?;
@@ -22,22 +22,19 @@ fn append_row(heap: Global, text: &mut Vec<u8>, label: u16, name: &[u8]) -> Resu
 }
 
 // The rows of all labels.
-fn all_rows(heap: Global, glossary: &Glossary<'_>) -> Result<Vec<u8>, Refusal>
-    ensures { MatchResult result (λ t. t.items ≡ rows (names_of glossary.now) (length (names_of glossary.now))) (λ x. x ≡ no_memory) }
+fn all_rows(heap: Global, glossary: &Glossary<'_>) -> Result<Vec<u8>, AllocError>
+    ensures { IfOk result (λ t. t.items ≡ rows (names_of glossary.now) (length (names_of glossary.now))) }
 {
     let mut text = Vec::new(heap);
-    for k in 0..glossary.count() {
-        match glossary.name(k + 1) {
-            Some(name) => append_row(heap, &mut text, k + 1, name)?,
-            None => unreachable(),
-        }
+    for (k, name) in glossary.names().enumerate() {
+        append_row(heap, &mut text, k + 1, name)?;
     }
     Ok(text)
 }
 
 // A row for each label, then the size of the block.
-fn describe(heap: Global, glossary: &Glossary<'_>, size: usize) -> Result<Vec<u8>, Refusal>
-    ensures { MatchResult result (λ t. t.items ≡ listing_of (names_of glossary.now) size) (λ x. x ≡ no_memory) }
+fn describe(heap: Global, glossary: &Glossary<'_>, size: usize) -> Result<Vec<u8>, AllocError>
+    ensures { IfOk result (λ t. t.items ≡ listing_of (names_of glossary.now) size) }
 {
     let mut text = all_rows(heap, glossary)?;
     let size = format!(in heap; "{size} bytes\n")?;
@@ -51,18 +48,16 @@ pub fn listing(heap: Global, block: &[u8]) -> Result<Vec<u8>, Refusal>
     ensures refused { (x : Refusal) → Judged block.now (Some x) → result ≡ Err x }
 {
     let glossary = Glossary::new(block)?;
-    describe(heap, &glossary, block.len())
+    Ok(describe(heap, &glossary, block.len())?)
 }
 
 // What is wrong with a list of names, one a line.
 pub fn complaint(heap: Global, refusal: Refusal) -> Result<String, AllocError>
     ensures { IfOk result (λ s. string_bytes s ≡ complaint_of refusal) }
 {
-    let cause = refusal.cause;
-    let line = refusal.position;
-    if line == 0 {
-        format!(in heap; "{cause} ({refusal})")
-    } else {
-        format!(in heap; "line {line}: {cause} ({refusal})")
+    let Refusal { cause, position } = refusal;
+    match position {
+        0 => format!(in heap; "{cause} ({refusal})"),
+        line => format!(in heap; "line {line}: {cause} ({refusal})"),
     }
 }

@@ -9,16 +9,7 @@ use std::alloc::{AllocError, Global};
 pub fn lines(heap: Global, text: &[u8]) -> Result<Vec<&[u8]>, AllocError>
     ensures { IfOk result (λ v. LinesOf (bytes_of v.items) text.now) }
 {
-    let mut lines = Vec::new(heap);
-    let mut start = 0;
-    for i in 0..text.len() {
-        if text[i] == b'\n' {
-            lines.push(&text[start..i])?;
-            start = i + 1;
-        }
-    }
-    if start < text.len() {
-        lines.push(&text[start..])?;
-    }
+    let mut lines: Vec<&[u8]> = text.split(|byte| *byte == b'\n').collect(heap)?;
+    lines.pop_if(|last| last.is_empty());
     Ok(lines)
 }

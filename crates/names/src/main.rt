@@ -5,33 +5,32 @@
 use anyhow::anyhow;
 use name_list::{complaint, lines, listing, write_block};
 use refusal::Refusal;
+use std::alloc::Global;
 use std::fs;
 use std::io::{Read, Write};
 use std::process::ExitCode;
 
 const FILE: &str = "names.glo";
 
-fn told(rt: &HostRuntime, refusal: Refusal) -> anyhow::Error {
-    match complaint(rt.alloc(), refusal) {
+// What the program tells of a refusal. A program's errors are text, as the library's `anyhow` has it.
+fn told(heap: Global, refusal: Refusal) -> anyhow::Error {
+    match complaint(heap, refusal) {
         Ok(text) => anyhow!("{text}"),
         Err(_) => anyhow!("no memory is left"),
     }
 }
 
+// From the list to the file, and from the file to the listing.
 fn run(rt: &HostRuntime) -> anyhow::Result<()> {
-    let mut text = Vec::new(rt.alloc());
+    let heap = rt.alloc();
+    let mut text = Vec::new(heap);
     rt.stdin().read_to_end(&mut text)?;
-    let names = lines(rt.alloc(), text.as_slice())?;
-    let block = match write_block(rt.alloc(), names.as_slice()) {
-        Ok(block) => block,
-        Err(refusal) => return Err(told(rt, refusal)),
-    };
-    fs::write(rt, FILE, block.as_slice())?;
+    let names = lines(heap, &text)?;
+    let block = write_block(heap, &names).map_err(|refusal| told(heap, refusal))?;
+    fs::write(rt, FILE, &block)?;
     let stored = fs::read(rt, FILE)?;
-    match listing(rt.alloc(), stored.as_slice()) {
-        Ok(shown) => rt.stdout().write_all(shown.as_slice())?,
-        Err(refusal) => return Err(told(rt, refusal)),
-    }
+    let shown = listing(heap, &stored).map_err(|refusal| told(heap, refusal))?;
+    rt.stdout().write_all(&shown)?;
     Ok(())
 }
 

@@ -1,16 +1,11 @@
-use Rattle.std.proofs.Common.{◌<◌, length, ◌∙◌, arith}
-use Rattle.glossary.specs.Meaning.{names_of}
-use Rattle.name_list.proofs.Texts.{name_of_next, none_is_not_some, rows_step}
+use Rattle.std.proofs.Common.{◌∙◌, ap}
+use Rattle.std.proofs.lemmas.Iterator.Consumers.{YieldsList-at, YieldsList-end, YieldsList-from_first, YieldsList-from_enumerate}
+use Rattle.glossary.specs.Meaning.{names_of, names_left}
+use Rattle.name_list.proofs.Texts.{all_rows_taken}
 use Rattle.name_list.proofs.showing.all_rows.Goals as goal
 
-pub unreachable-requires : goal.unreachable-requires
-unreachable-requires c =
-    let names = names_of c.args.glossary.now in
-    let h : c.loop-k.k < length names = omega (arith, c.loop-k-test.true, c.count-k-end.ensures) in
-    none_is_not_some _ (c.in-None.ensures.value ∙ name_of_next names c.loop-k.k h)
-
-pub loop-k-preserved : goal.loop-k-preserved
-loop-k-preserved c =
-    let names = names_of c.args.glossary.now in
-    let h : c.loop-k.k < length names = omega (arith, c.loop-k-test.true, c.count-k-end.ensures) in
-    rows_step names c.loop-k.k _ _ _ h c.loop-k.invariant c.in-Some.ensures.value c.in_ok-append_row-in-Some.ensures
+pub returns : goal.returns
+returns c =
+    let all = YieldsList-from_enumerate (YieldsList-from_first (λ x. x.now) names_left _ (ap names_left c.enumerate-k-items.ensures.source ∙ c.names.ensures)) c.enumerate-k-items.ensures.count in
+    let end = YieldsList-end (YieldsList-at c.into_iter-k-iterator.ensures.into_iter_gives all) c.loop-k.yielded _ c.loop-k.yielded_by _ c.next.new.self c.in-None.is c.next.ensures.steps in
+    c.loop-k.invariant ∙ all_rows_taken (names_of c.args.glossary.now) _ end.0

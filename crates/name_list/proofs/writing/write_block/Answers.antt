@@ -1,41 +1,33 @@
-use Rattle.std.proofs.Common.{sym, refl, ◌∙◌, subst, inl, inr, arith}
-use Rattle.std.proofs.lemmas.Bool.{eqb-true}
+use Rattle.std.proofs.Common.{Some, sym, refl, ap, ◌∙◌, subst, inl, inr, rules}
 use Rattle.std.proofs.lemmas.Result.{err_from_is_err_and}
 use Rattle.glossary.specs.Format.{BlockOf}
 use Rattle.name_list.specs.Lists.{bytes_of}
 use Rattle.name_list.proofs.Judging.{judged_list, read_back}
-use Rattle.name_list.proofs.Slices.{length_bytes_of, sized_slices}
+use Rattle.name_list.proofs.Slices.{first_of_slices, none_of_slices, sized_slices}
 use Rattle.name_list.proofs.writing.write_block.Goals as goal
-use Rattle.name_list.proofs.writing.write_block.Goals.{then-is_empty-via-then-is_empty, then-is_empty-via-else-is_empty+then-names}
-
-pub returns-then-is_empty : goal.returns-then-is_empty
-returns-then-is_empty c =
-    inl (inl (elim c.then-is_empty.branch [ then-is_empty-via-then-is_empty w ↦ inl (length_bytes_of _ ∙ eqb-true _ _ (sym w.if-is_empty.ensures)) | then-is_empty-via-else-is_empty+then-names w ↦ inr (omega (arith, length_bytes_of c.args.names.now)) ], refl))
-
-pub overflow_add-result : goal.overflow_add-result
-overflow_add-result c = omega (arith, c.in-Some.ensures.0, length_bytes_of c.args.names.now)
 
 pub returns-in-Some : goal.returns-in-Some
 returns-in-Some c =
-    inl (inr (sized_slices _ (sym c.if-is_empty.ensures) c.if-names.false, inl (c.in-Some.k, c.in-Some.ensures, refl)))
+    inl (inr (sized_slices _ (search rules) (search rules), inl (c.in-Some.k, first_of_slices _ _ (sym c.in-Some.ensures), ap Some c.at.ensures)))
 
-pub encode-requires : goal.encode-requires
-encode-requires c =
-    record { few = omega (arith, length_bytes_of c.args.names.now); good = c.in_default.ensures }
+pub encode-requires-clause-good : goal.encode-requires-clause-good
+encode-requires-clause-good c = none_of_slices c.args.names.now (sym c.in_default.ensures)
 
 pub returns-in_err-block : goal.returns-in_err-block
 returns-in_err-block c =
     let p = err_from_is_err_and c.from_residual.result c.from_residual.ensures.1 in
     rw (p.1, p.2)
-    (inr (c.in_err-block.ensures, sized_slices _ (sym c.if-is_empty.ensures) c.if-names.false, c.in_default.ensures))
+    (inr (refl, sized_slices _ (search rules) (search rules), none_of_slices _ (sym c.in_default.ensures)))
 
-pub returns-in-Ok : goal.returns-in-Ok
-returns-in-Ok c =
+pub returns-in_err-new : goal.returns-in_err-new
+returns-in_err-new c =
+    let p = err_from_is_err_and c.from_residual-in_err-new.result c.from_residual-in_err-new.ensures.1 in
+    rw (p.1, p.2)
+    (inl (judged_list (bytes_of c.args.names.now) _ _ (c.deref.ensures.value ∙ c.in_ok-block.ensures)
+    (sized_slices _ (search rules) (search rules)) (none_of_slices _ (sym c.in_default.ensures)) c.in_err-new.ensures.judged))
+
+pub returns : goal.returns
+returns c =
     let names = bytes_of c.args.names.now in
-    subst (BlockOf names) c.as_slice.ensures.value
-    (read_back names _ _ (c.as_slice.ensures.value ∙ c.in_ok-block.ensures) c.in-Ok.ensures.stands_for.1)
-
-pub returns-in-Err : goal.returns-in-Err
-returns-in-Err c =
-    inl (judged_list (bytes_of c.args.names.now) _ _ (c.as_slice.ensures.value ∙ c.in_ok-block.ensures)
-    (sized_slices _ (sym c.if-is_empty.ensures) c.if-names.false) c.in_default.ensures c.in-Err.ensures.judged)
+    subst (BlockOf names) c.deref.ensures.value
+    (read_back names _ _ (c.deref.ensures.value ∙ c.in_ok-block.ensures) c.in_ok-new.ensures.stands_for.1)

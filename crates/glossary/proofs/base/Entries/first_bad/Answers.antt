@@ -1,0 +1,15 @@
+use Rattle.std.proofs.Common.{◌≡◌, ℕ, List, true, false, rules, tests}
+use Rattle.std.proofs.lemmas.Bool.{both_ways}
+use Rattle.std.proofs.lemmas.Iterator.{IsFirst-from_position}
+use Rattle.std.proofs.lemmas.Iterator.Consumers.{YieldsList-from_first}
+use Rattle.glossary.specs.Names.{good_name}
+use Rattle.glossary.specs.Meaning.{names_left}
+use Rattle.glossary.proofs.Walks.{first_listed}
+use Rattle.glossary.proofs.base.Entries.first_bad.Goals as goal
+
+pub returns : goal.returns
+returns c =
+    let Yes : List ℕ → Type 0 = λ n. good_name n ≡ false in
+    let No : List ℕ → Type 0 = λ n. good_name n ≡ true in
+    first_listed _ _ Yes No (λ x e f. both_ways _ f e) _
+    (IsFirst-from_position c.position.new.self _ _ Yes No c.position.ensures.ran (YieldsList-from_first (λ x. x.now) names_left _ c.names.ensures) (λ x q k. search (rules, tests)) (λ x q k. search (rules, tests)))
