@@ -11,7 +11,7 @@ use Rattle.rewrite.specs.Turns.{turn_of}
 use Rattle.rewrite.specs.declared.turns.Turn.{Turn}
 use Rattle.rewrite.specs.declared.turns.Turn.TheVariants.{Kept, Dropped, Merge, Split, Open, Shift}
 use Rattle.rewrite.proofs.Telling.{Seen, seen}
-use Rattle.all_ends.proofs.Changed.{Good, pattern_with}
+use Rattle.all_ends.proofs.Changed.{Good}
 use Rattle.all_ends.proofs.Falling.{Less, alternatives_less, every_imp}
 use Rattle.all_ends.proofs.Shorter.{rows_then, NoLonger, alternatives_no_longer}
 
@@ -41,7 +41,7 @@ bounded : (f : ℕ) (s : Shape) → Good s → Every (Bound s) (ends_within f s)
 unfolding ends_within by_turn
 bounded zero s g = (tt, tt)
 bounded (suc f) s g =
-    go (turn_of s.rows) (seen (pattern_with s g) g.whole)
+    go (turn_of s.rows) (seen s.rows g.whole g.ok)
     (every_two (Less s) (NoLonger s) (λ o. Every (Bound s) (ends_from (ends_within f) o)) _ (one (λ q k. bounded f q k)) (alternatives_less s g) (alternatives_no_longer s g))
   where
     wider : (q : Shape) → rows_then q ≤ rows_then s → expanded_rows q ≤ expanded_rows s → (root_alone s.rows ≡ true → root_alone q.rows ≡ true) → (o : Option Shape) → Bound q o → Bound s o
@@ -53,7 +53,7 @@ bounded (suc f) s g =
     one again (Some q) a (r, inl b) = every_imp (Bound q) (Bound s) _ (wider q r b a.2) (again q a.0)
     one again (Some q) a (r, inr b) = dropped_ends s f q b
 
-    go : (t : Turn) → Seen (pattern_with s g) t → Every (λ o. Every (Bound s) (ends_from (ends_within f) o)) (alternatives s t) → Every (Bound s) (by_turn (ends_within f) s t)
+    go : (t : Turn) → Seen s.rows t → Every (λ o. Every (Bound s) (ends_from (ends_within f) o)) (alternatives s t) → Every (Bound s) (by_turn (ends_within f) s t)
     go Kept h a = ((omega arith, omega arith, h.1, λ e. e), tt)
     go Dropped h a = (tt, tt)
     go (Merge z) h a = every_each (Bound s) (ends_from (ends_within f)) _ a

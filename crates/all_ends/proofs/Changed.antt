@@ -8,14 +8,14 @@ use Rattle.record.specs.declared.axis.Axis.TheVariants.{Along}
 use Rattle.record.specs.declared.rules.Move.{Move}
 use Rattle.record.specs.declared.rules.Move.TheVariants.{Up, Join, Between}
 use Rattle.pattern.specs.Roots.{root_alone}
-use Rattle.pattern.specs.Rows.{row, inner, deep, room, live, rooted, hung, second, rehung, spread, merged_row, MergedInto, MovedTo, moved_output, DroppedBy}
+use Rattle.pattern.specs.Rows.{Seat, row, inner, deep, room, live, rooted, hung, second, rehung, spread, merged_row, MergedInto, MovedTo, moved_output, DroppedBy}
 use Rattle.pattern.specs.Tests.{joined}
 use Rattle.pattern.specs.declared.base.Pattern.{Pattern}
-use Rattle.pattern.specs.declared.row.Row.{Row}
 use Rattle.pattern.specs.declared.row.Test.{Test}
 use Rattle.pattern.proofs.MergedRows.{up_apart, up_live, merged_rooted, into_live}
 use Rattle.pattern.proofs.Moved.{hung_test, hung_live, y_high, w_high, inner_parts, deep_parts, room_parts, moved_rooted, moved_live, axed_rooted}
 use Rattle.pattern.proofs.KeptRoots.{rehung_root, merged_up_root, moved_root, spread_root}
+use Rattle.pattern.proofs.SeatLists.{seats_long}
 use Rattle.pattern.proofs.Spreads.{spread_rooted, spread_live}
 use Rattle.all_ends.specs.Ends.{Shape, shape_of, shaped, merged_shape, merge_into, by_move}
 use Rattle.all_ends.proofs.Shapes.{list_merged}
@@ -27,10 +27,7 @@ pub record Good (s : Shape) : Type 0 where
   pub shown : live s.rows s.output ≡ true
 
 pub good_pattern : (P : Pattern) → length P.rows ≡ 16 → Good (shape_of P)
-good_pattern P len = record { whole = len; ok = P.ok; shown = P.shown }
-
-abbrev pub pattern_with : (s : Shape) → Good s → Pattern
-pattern_with s g = record { rows = s.rows; output = s.output; ok = g.ok; shown = g.shown }
+good_pattern P len = record { whole = seats_long P.rows ∙ len; ok = P.ok; shown = P.shown }
 
 -- what a merge gives
 abbrev pub MergeKnown : Shape → ℕ → ℕ → Option Shape → Type 0
@@ -50,7 +47,7 @@ abbrev pub MoveKnown : Shape → ℕ → Move → Option Shape → Type 0
 MoveKnown s z m o = MatchOption o (DroppedBy s.rows z m) (λ q. MovedTo s.rows z m q.rows × (q.output ≡ moved_output s.rows z m s.output) × (length q.rows ≡ 16))
 
 module _ (s : Shape) (g : Good s) (z : ℕ) where
-  abbrev rs : List Row
+  abbrev rs : List Seat
   rs = s.rows
 
   rehung_length : (z w : ℕ) (x : Axis) → length (rehung rs z w x) ≡ 16

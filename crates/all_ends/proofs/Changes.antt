@@ -3,30 +3,30 @@ use Rattle.std.proofs.Common.{◌≡◌, ℕ, ◌+◌, ◌<◌, ◌≤◌, true,
 use Rattle.std.proofs.lemmas.List.{get_or-set_other, length-set}
 use Rattle.std.proofs.lemmas.Bool.{eq-eqb, ne_eqb, both_ways}
 use Rattle.record.specs.declared.axis.Step.{Step}
+use Rattle.record.specs.declared.axis.Step.TheVariants.{Child}
 use Rattle.record.specs.declared.axis.Reach.TheVariants.{DescendantOrSelf, AncestorOrSelf}
 use Rattle.record.specs.declared.axis.Axis.{Axis}
 use Rattle.record.specs.declared.axis.Axis.TheVariants.{Along, Against, Wide}
 use Rattle.record.specs.declared.rules.Move.{Move}
 use Rattle.record.specs.declared.rules.Move.TheVariants.{Up, Join, Between}
 use Rattle.ways.proofs.RowSums.{upd_other}
-use Rattle.pattern.specs.Rows.{top, row, rooted, deep, hung, fresh, second, rehung, spread, MergedInto, MovedTo}
-use Rattle.pattern.specs.declared.row.Row.{Row}
+use Rattle.pattern.specs.Rows.{Seat, top, row, rooted, deep, hung, fresh, second, rehung, spread, MergedInto, MovedTo}
 use Rattle.pattern.proofs.MergedRows.{up_apart}
 use Rattle.pattern.proofs.Moved.{deep_parts, y_high, y_used, hung_used, hung_axis}
 use Rattle.all_ends.proofs.Counts.{weigh, weigh_change, weigh_set}
 
 -- nothing for a row that is not in use
-abbrev pub used_only : (Row → ℕ) → Row → ℕ
+abbrev pub used_only : (Seat → ℕ) → Seat → ℕ
 used_only c r = cond r.used (c r) 0
 
-pub of_used : (c : Row → ℕ) (r : Row) → r.used ≡ true → used_only c r ≡ c r
+pub of_used : (c : Seat → ℕ) (r : Seat) → r.used ≡ true → used_only c r ≡ c r
 of_used c r e = ap (λ b. cond b (c r) 0) e
 
-pub of_free : (c : Row → ℕ) (r : Row) → r.used ≡ false → used_only c r ≡ 0
+pub of_free : (c : Seat → ℕ) (r : Seat) → r.used ≡ false → used_only c r ≡ 0
 of_free c r e = ap (λ b. cond b (c r) 0) e
 
 -- a row hung elsewhere
-pub rehung_weigh : (c : Row → ℕ) (rs : List Row) (z w : ℕ) (x : Axis) → 1 ≤ z → z < 16 → length rs ≡ 16 → (row rs z).used ≡ true →
+pub rehung_weigh : (c : Seat → ℕ) (rs : List Seat) (z w : ℕ) (x : Axis) → 1 ≤ z → z < 16 → length rs ≡ 16 → (row rs z).used ≡ true →
     weigh (used_only c) (rehung rs z w x) + c (row rs z) ≡ weigh (used_only c) rs + c (hung (row rs z) w x)
 rehung_weigh c rs z w x low high len used =
     let a = weigh_set (used_only c) rs z (hung (row rs z) w x) low high len in
@@ -35,26 +35,26 @@ rehung_weigh c rs z w x low high len used =
     omega arith
 
 -- a number that goes by the axis, where z is merged
-pub merged_weigh : (c : Axis → ℕ) (rs rs' : List Row) (z w : ℕ) → MergedInto rs z w rs' → 1 ≤ z → z < 16 → (row rs z).used ≡ true →
+pub merged_weigh : (c : Axis → ℕ) (rs rs' : List Seat) (z w : ℕ) → MergedInto rs z w rs' → 1 ≤ z → z < 16 → (row rs z).used ≡ true →
     weigh (used_only (λ r. c r.axis)) rs' + c (row rs z).axis ≡ weigh (used_only (λ r. c r.axis)) rs
 merged_weigh c rs rs' z w (t, e, h) low high used =
-    let f : Row → ℕ = used_only (λ r. c r.axis) in
-    let a = weigh_change f rs rs' z low high (λ i k. ap f (h i) ∙ ap (λ b. cond (cond b false (row rs i).used) (c (row rs i).axis) 0) (ne_eqb i z k)) in
+    let f : Seat → ℕ = used_only (λ r. c r.axis) in
+    let a = weigh_change f rs rs' z low high (λ i k. ap f (h i) ∙ ap (λ b. cond (cond b false (row rs i).used) (c (cond b (Along Child) (row rs i).axis)) 0) (ne_eqb i z k)) in
     let b = of_used (λ r. c r.axis) (row rs z) used in
-    let d : f (row rs' z) ≡ 0 = ap f (h z) ∙ ap (λ b. cond (cond b false (row rs z).used) (c (row rs z).axis) 0) (eq-eqb z z refl) in
+    let d : f (row rs' z) ≡ 0 = ap f (h z) ∙ ap (λ b. cond (cond b false (row rs z).used) (c (cond b (Along Child) (row rs z).axis)) 0) (eq-eqb z z refl) in
     omega arith
 
 -- two new rows
-pub spread_weigh : (c : Row → ℕ) (rs : List Row) (z n m : ℕ) (x : Axis) → 1 ≤ z → z < 16 → 1 ≤ n → n < 16 → 1 ≤ m → m < 16 → m ≢ n → length rs ≡ 16 →
+pub spread_weigh : (c : Seat → ℕ) (rs : List Seat) (z n m : ℕ) (x : Axis) → 1 ≤ z → z < 16 → 1 ≤ n → n < 16 → 1 ≤ m → m < 16 → m ≢ n → length rs ≡ 16 →
     (row rs z).used ≡ true → (row rs n).used ≡ false → (row rs m).used ≡ false →
     weigh (used_only c) (spread rs z n m x) + c (row rs z) ≡ weigh (used_only c) rs + (c (fresh (row rs z).up (Wide AncestorOrSelf)) + (c (fresh n x) + c (hung (row rs z) m (Wide DescendantOrSelf))))
 spread_weigh c rs z n m x z_low z_high n_low n_high m_low m_high m_n len used free spare =
-    let f : Row → ℕ = used_only c in
-    let first : Row = fresh (row rs z).up (Wide AncestorOrSelf) in
-    let next : Row = fresh n x in
-    let last : Row = hung (row rs z) m (Wide DescendantOrSelf) in
-    let one : List Row = set rs n first in
-    let two : List Row = set one m next in
+    let f : Seat → ℕ = used_only c in
+    let first : Seat = fresh (row rs z).up (Wide AncestorOrSelf) in
+    let next : Seat = fresh n x in
+    let last : Seat = hung (row rs z) m (Wide DescendantOrSelf) in
+    let one : List Seat = set rs n first in
+    let two : List Seat = set one m next in
     let l : length one ≡ 16 = length-set rs n first ∙ len in
     let k : length two ≡ 16 = length-set one m next ∙ l in
     let z_n : z ≢ n = λ e. both_ways _ free (subst (λ i. (row rs i).used ≡ true) e used) in
@@ -81,7 +81,7 @@ come k Up = 0
 come k (Between a b) = k
 come k (Join a) = 0
 
-module _ (rs : List Row) (len : length rs ≡ 16) (ok : rooted rs ≡ true) (z : ℕ) (d : deep rs z ≡ true) (sY sZ : Step) (aY : (row rs (row rs z).up).axis ≡ Along sY) (aZ : (row rs z).axis ≡ Against sZ)
+module _ (rs : List Seat) (len : length rs ≡ 16) (ok : rooted rs ≡ true) (z : ℕ) (d : deep rs z ≡ true) (sY sZ : Step) (aY : (row rs (row rs z).up).axis ≡ Along sY) (aZ : (row rs z).axis ≡ Against sZ)
     (c : Axis → ℕ) (k j : ℕ) (along : (s : Step) → c (Along s) ≡ k) (against : (s : Step) → c (Against s) ≡ j) where
   abbrev y : ℕ
   y = (row rs z).up
@@ -96,7 +96,7 @@ module _ (rs : List Row) (len : length rs ≡ 16) (ok : rooted rs ≡ true) (z :
   other_axis : (r w i : ℕ) (x : Axis) → r < 16 → i ≢ r → (row (rehung rs r w x) i).axis ≡ (row rs i).axis
   other_axis r w i x h n = hung_axis rs r w x (omega arith) i ∙ upd_other (λ i. (row rs i).axis) r x i n
 
-  pub moved_weigh : (m : Move) (q : List Row) → MovedTo rs z m q → weigh (used_only (λ r. c r.axis)) q + gone j m ≡ weigh (used_only (λ r. c r.axis)) rs + come k m
+  pub moved_weigh : (m : Move) (q : List Seat) → MovedTo rs z m q → weigh (used_only (λ r. c r.axis)) q + gone j m ≡ weigh (used_only (λ r. c r.axis)) rs + come k m
   moved_weigh Up q e =
       let (low, high, used, below) = parts in
       let a = rehung_weigh (λ r. c r.axis) rs z (second rs z) (row rs z).axis low high len used in
@@ -105,7 +105,7 @@ module _ (rs : List Row) (len : length rs ≡ 16) (ok : rooted rs ≡ true) (z :
   moved_weigh (Between a b) q e =
       let (low, high, used, below) = parts in
       let yh = y_high rs len ok z low high used below in
-      let one : List Row = rehung rs z (second rs z) (Along a) in
+      let one : List Seat = rehung rs z (second rs z) (Along a) in
       let l : length one ≡ 16 = length-set rs z (hung (row rs z) (second rs z) (Along a)) ∙ len in
       let u : (row one y).used ≡ true = hung_used rs z (second rs z) (Along a) (omega arith) y ∙ y_used rs len ok z low high used below in
       let cz : c (row rs z).axis ≡ j = ap c aZ ∙ against sZ in
@@ -119,7 +119,7 @@ module _ (rs : List Row) (len : length rs ≡ 16) (ok : rooted rs ≡ true) (z :
   moved_weigh (Join a) q e =
       let (low, high, used, below) = parts in
       let yh = y_high rs len ok z low high used below in
-      let one : List Row = rehung rs y (second rs z) (Along a) in
+      let one : List Seat = rehung rs y (second rs z) (Along a) in
       let u : (row one z).used ≡ true = hung_used rs y (second rs z) (Along a) (omega arith) z ∙ used in
       let cz : c (row one z).axis ≡ j = ap c (other_axis y (second rs z) z (Along a) yh (λ e. y_z (sym e)) ∙ aZ) ∙ against sZ in
       let cy : c (row rs y).axis ≡ k = ap c aY ∙ along sY in

@@ -8,6 +8,8 @@ use Rattle.tally.specs.Tallies.{naturals}
 use Rattle.tally.proofs.Sums.{nought_plus}
 use Rattle.ways.specs.Rewriting.{Every}
 use Rattle.ways.proofs.Whole.{total_append, map_append}
+use Rattle.pattern.proofs.SeatLists.{seats_long}
+use Rattle.pattern.specs.Rows.{seats}
 use Rattle.pattern.specs.Questions.{value_at, ways, question_ways, selects}
 use Rattle.pattern.specs.Sizes.{path_rows}
 use Rattle.pattern.specs.declared.base.Pattern.{Pattern}
@@ -19,6 +21,7 @@ use Rattle.all_ends.specs.declared.base.Ends.{Ends}
 use Rattle.all_ends.proofs.Accounts.{kept_append}
 use Rattle.all_ends.proofs.Bounded.{Within, ends_bounded}
 use Rattle.all_ends.proofs.Changed.{good_pattern}
+use Rattle.all_ends.proofs.Falling.{member}
 use Rattle.all_ends.proofs.Measures.{turns_few}
 use Rattle.all_ends.proofs.Rooms.{fits_numbered}
 use Rattle.all_ends.proofs.Shorter.{fits_whole}
@@ -39,11 +42,11 @@ module _ {T : Type 0} (S : Semiring T) (places : List Place) (rec : Record place
   unfolding ends_of
   one_source P f =
       sym (only_kept (ends_of (shape_of P)))
-      ∙ ends_kept S places rec p 1000000 (shape_of P) (good_pattern P (fits_whole (shape_of P) f)) (fits_numbered (shape_of P) f) (let l = turns_few P.rows in omega arith)
+      ∙ ends_kept S places rec p 1000000 (shape_of P) (good_pattern P (sym (seats_long P.rows) ∙ fits_whole (shape_of P) f)) (fits_numbered (shape_of P) f) (let l = turns_few (seats P.rows) in omega arith)
       ∙ worth_value S places rec p P
 
   all_sources : (Ps : List Pattern) → all_fit Ps ≡ true → total S (map worth_of (kept_of (question_ends Ps))) ≡ total S (map (λ P. value_at S places P p) Ps)
-  unfolding question_ends all_fit total
+  unfolding question_ends total
   all_sources [] f = unfold kept_of in refl
   all_sources (P ∷ Ps) f =
       ap (λ l. total S (map worth_of l)) (kept_append (ends_of (shape_of P)) (question_ends Ps))
@@ -74,11 +77,6 @@ every_member : {A : Type 0} (F : A → Type 0) (xs : List A) → ((x : A) → Am
 every_member F [] h = tt
 every_member F (x ∷ xs) h = (h x (inl refl), every_member F xs (λ y i. h y (inr i)))
 
-member : {A : Type 0} (F : A → Type 0) (xs : List A) → Every F xs → (x : A) → Among x xs → F x
-member F [] h x i = absurd i
-member F (y ∷ ys) h x (inl e) = subst F (sym e) h.0
-member F (y ∷ ys) h x (inr i) = member F ys h.1 x i
-
 among_append : {A : Type 0} (x : A) (xs ys : List A) → Among x (xs ++ ys) → Among x xs ⊎ Among x ys
 among_append x [] ys i = inr i
 among_append x (y ∷ xs) ys (inl e) = inl (inl e)
@@ -93,17 +91,17 @@ end_of : (P : Pattern) → length P.rows ≡ 16 → (f : Forward) → Among (for
 end_of P len f i = let (a, b, d, k) = member (Within (shape_of P)) _ (ends_bounded (shape_of P) (good_pattern P len)) (forward_shape f) i in record { reached = i; rows = a; path = b; down = d; root = k }
 
 of_some : (Ps : List Pattern) → all_fit Ps ≡ true → (f : Forward) → Among (forward_shape f) (kept_of (question_ends Ps)) → Any (λ P. EndOf P f) Ps
-unfolding question_ends all_fit
+unfolding question_ends
 of_some [] a f i = absurd (unfold kept_of in i)
 of_some (P ∷ Ps) a f i = elim (among_append (forward_shape f) (kept_of (ends_of (shape_of P))) (kept_of (question_ends Ps)) (subst (Among (forward_shape f)) (kept_append (ends_of (shape_of P)) (question_ends Ps)) i)) [
-  | inl j ↦ inl (end_of P (fits_whole (shape_of P) (and_parts _ _ a).0) f j)
+  | inl j ↦ inl (end_of P (sym (seats_long P.rows) ∙ fits_whole (shape_of P) (and_parts _ _ a).0) f j)
   | inr j ↦ inr (of_some Ps (and_parts _ _ a).1 f j)
 ]
 
-short_of : (Ps : List Pattern) (f : Forward) → all_fit Ps ≡ true → Any (λ P. EndOf P f) Ps → path_rows f.pattern.rows f.pattern.output ≤ 15
-unfolding all_fit fits
+short_of : (Ps : List Pattern) (f : Forward) → all_fit Ps ≡ true → Any (λ P. EndOf P f) Ps → path_rows (seats f.pattern.rows) f.pattern.output ≤ 15
+unfolding fits
 short_of [] f a i = absurd i
-short_of (P ∷ Ps) f a (inl e) = let l : expanded_rows (shape_of P) ≤ 15 = leb-true (expanded_rows (shape_of P)) 15 (and_parts _ _ (and_parts _ _ (and_parts _ _ a).0).1).1 in let p : path_rows f.pattern.rows f.pattern.output ≤ expanded_rows (shape_of P) = e.path in omega arith
+short_of (P ∷ Ps) f a (inl e) = let l : expanded_rows (shape_of P) ≤ 15 = leb-true (expanded_rows (shape_of P)) 15 (and_parts _ _ (and_parts _ _ (and_parts _ _ a).0).1).1 in let p : path_rows (seats f.pattern.rows) f.pattern.output ≤ expanded_rows (shape_of P) = e.path in omega arith
 short_of (P ∷ Ps) f a (inr i) = short_of Ps f (and_parts _ _ a).1 i
 
 pub faithful : (Ps : List Pattern) (ends : Ends) → all_fit Ps ≡ true → Finished Ps ends → Faithful Ps (vec_items ends.kept)

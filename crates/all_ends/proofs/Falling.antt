@@ -8,18 +8,18 @@ use Rattle.record.specs.declared.rules.Move.{Move}
 use Rattle.record.specs.declared.rules.Move.TheVariants.{Up, Join, Between}
 use Rattle.ways.specs.Rewriting.{Every}
 use Rattle.pattern.specs.Roots.{root_alone}
-use Rattle.pattern.specs.Rows.{row, inner, deep, room, spread, MovedTo}
-use Rattle.pattern.specs.declared.row.Row.{Row}
+use Rattle.pattern.specs.Rows.{Seat, row, inner, deep, room, spread, MovedTo}
 use Rattle.pattern.proofs.MergedRows.{up_within}
 use Rattle.pattern.proofs.Moved.{inner_parts, deep_parts, room_parts}
 use Rattle.all_ends.specs.Ends.{Shape, shaped, merge_into, merge_at, axis_at, next_number, open_at, by_move, move_at, alternatives}
-use Rattle.rewrite.specs.Turns.{turn_of, Told}
+use Rattle.all_ends.specs.Rewritten.{Among}
+use Rattle.rewrite.specs.Turns.{turn_of}
 use Rattle.rewrite.specs.declared.turns.Turn.{Turn}
 use Rattle.rewrite.specs.declared.turns.Turn.TheVariants.{Kept, Dropped, Merge, Split, Open, Shift}
-use Rattle.all_ends.proofs.Changed.{Good, pattern_with, MergeKnown, merge_known, MoveKnown, move_known, merged_good, moved_good, axed_good, opened_good, merged_alone, moved_alone, axed_alone, opened_alone}
+use Rattle.all_ends.proofs.Changed.{Good, MergeKnown, merge_known, MoveKnown, move_known, merged_good, moved_good, axed_good, opened_good, merged_alone, moved_alone, axed_alone, opened_alone}
 use Rattle.all_ends.proofs.Changes.{rehung_weigh, merged_weigh, spread_weigh, gone, come, moved_weigh}
 use Rattle.all_ends.proofs.Measures.{cost, back, costs, backs, turns_left, fewer_costs, fewer_backs, less_far, raised}
-use Rattle.rewrite.proofs.Telling.{told}
+use Rattle.rewrite.proofs.Telling.{Seen, seen}
 
 -- none, or a pattern with fewer turns left
 abbrev pub Less : Shape → Option Shape → Type 0
@@ -27,7 +27,7 @@ Less s None = Unit {0}
 Less s (Some q) = Good q × (turns_left q.rows < turns_left s.rows) × (root_alone s.rows ≡ true → root_alone q.rows ≡ true)
 
 module _ (s : Shape) (g : Good s) (z : ℕ) where
-  abbrev rs : List Row
+  abbrev rs : List Seat
   rs = s.rows
 
   merged_less : inner rs z ≡ true → 1 ≤ cost (row rs z).axis → Less s (merge_at s z)
@@ -72,7 +72,7 @@ module _ (s : Shape) (g : Good s) (z : ℕ) where
           )
 
   module _ (d : deep rs z ≡ true) (sY sZ : Step) (aY : (row rs (row rs z).up).axis ≡ Along sY) (aZ : (row rs z).axis ≡ Against sZ) where
-    moved_fewer : (m : Move) (q : List Row) → MovedTo rs z m q → turns_left q < turns_left rs
+    moved_fewer : (m : Move) (q : List Seat) → MovedTo rs z m q → turns_left q < turns_left rs
     moved_fewer m q h = go m h (moved_weigh rs g.whole g.ok z d sY sZ aY aZ cost 0 0 (λ _. refl) (λ _. refl) m q h) (moved_weigh rs g.whole g.ok z d sY sZ aY aZ back 0 1 (λ _. refl) (λ _. refl) m q h)
       where
         go : (m : Move) → MovedTo rs z m q → costs q + gone 0 m ≡ costs rs + come 0 m → backs q + gone 1 m ≡ backs rs + come 0 m → turns_left q < turns_left rs
@@ -99,11 +99,16 @@ pub every_map : {A B : Type 0} (F : B → Type 0) (f : A → B) (xs : List A) �
 every_map F f [] h = tt
 every_map F f (x ∷ xs) h = (h x, every_map F f xs h)
 
+pub member : {A : Type 0} (F : A → Type 0) (xs : List A) → Every F xs → (x : A) → Among x xs → F x
+member F [] h x i = absurd i
+member F (y ∷ ys) h x (inl e) = subst F (sym e) h.0
+member F (y ∷ ys) h x (inr i) = member F ys h.1 x i
+
 pub alternatives_less : (s : Shape) (g : Good s) → Every (Less s) (alternatives s (turn_of s.rows))
 unfolding alternatives
-alternatives_less s g = go (turn_of s.rows) (told (pattern_with s g) g.whole)
+alternatives_less s g = go (turn_of s.rows) (seen s.rows g.whole g.ok)
   where
-    go : (t : Turn) → Told (pattern_with s g) t → Every (Less s) (alternatives s t)
+    go : (t : Turn) → Seen s.rows t → Every (Less s) (alternatives s t)
     go Kept h = tt
     go Dropped h = tt
     go (Merge z) (i, a) = (merged_less s g z i (let c : cost (row s.rows z).axis ≡ 1 = ap cost a in omega arith), tt)
@@ -115,4 +120,4 @@ alternatives_less s g = go (turn_of s.rows) (told (pattern_with s g) g.whole)
         let c : cost (row s.rows z).axis ≡ 5 = elim o [ inl (a, b) ↦ ap cost a | inr (a, b) ↦ ap cost a ] in
         let d : cost x ≡ 0 = elim o [ inl (a, b) ↦ ap cost b | inr (a, b) ↦ ap cost b ] in
         (opened_less s g z x d c, tt)
-    go (Shift z upper lower) (d, a, b) = every_map (Less s) (move_at s z) (table upper lower) (moved_less s g z d upper lower a b)
+    go (Shift z upper lower) ((d, a, b), n) = every_map (Less s) (move_at s z) (table upper lower) (moved_less s g z d upper lower a b)

@@ -2,26 +2,28 @@
 use Rattle.std.proofs.Common.{◌≡◌, ℕ, zero, suc, ◌+◌, ◌*◌, ◌<◌, ◌≤◌, true, false, List, [], ◌∷◌, ◌++◌, map, length, get_or, take, drop, Some, None, Ok, Err, Option, Result, sym, refl, ap, ◌∙◌, subst, ap₂, inl, inr, arith, MatchOption}
 use Rattle.std.specs.List.{flat_map as each}
 use Rattle.std.specs.Option.{option_map}
-use Rattle.std.proofs.lemmas.List.{append-nil, append_assoc, take_all, take_more, take-append-drop, drop_more}
+use Rattle.std.proofs.lemmas.List.{append-nil, take_all, take_more, take-append-drop, drop_more}
 use Rattle.std.proofs.lemmas.Bool.{both_ways}
+use Rattle.std.proofs.lemmas.Grind.{flat_map-append}
 use Rattle.record.specs.Moves.{table}
 use Rattle.record.specs.declared.axis.Step.{Step}
 use Rattle.record.specs.declared.axis.Axis.{Axis}
 use Rattle.record.specs.declared.rules.Move.{Move}
 use Rattle.refusal.specs.declared.refusing.Refusal.{Refusal}
 use Rattle.ways.specs.Rewriting.{Every}
-use Rattle.pattern.specs.Rows.{all_along}
+use Rattle.pattern.specs.Rows.{seats, all_along}
 use Rattle.pattern.specs.declared.base.Pattern.{Pattern}
 use Rattle.pattern.specs.declared.forward.Forward.{Forward}
-use Rattle.all_ends.specs.Ends.{Shape, shape_of, merge_at, axis_at, open_at, move_at, alternatives, ends_from, by_turn, ends_of}
+use Rattle.all_ends.specs.Ends.{Shape, shape_of, merge_at, axis_at, move_at, alternatives, ends_from, by_turn, ends_of}
 use Rattle.all_ends.specs.Reached.{forward_shape, Grown, Reached}
+use Rattle.all_ends.specs.Rewritten.{Among}
 use Rattle.rewrite.specs.Turns.{turn_of}
 use Rattle.all_ends.specs.declared.base.Ends.{Ends}
 use Rattle.rewrite.specs.declared.turns.Turn.{Turn}
-use Rattle.rewrite.specs.declared.turns.Turn.TheVariants.{Kept, Dropped, Merge, Split, Open, Shift}
+use Rattle.rewrite.specs.declared.turns.Turn.TheVariants.{Split, Shift}
 use Rattle.all_ends.proofs.Accounts.{grown_append, many_first, many_then}
 use Rattle.all_ends.proofs.Changed.{good_pattern}
-use Rattle.all_ends.proofs.Falling.{Less, alternatives_less}
+use Rattle.all_ends.proofs.Falling.{Less, member, alternatives_less}
 use Rattle.all_ends.proofs.Measures.{turns_left}
 use Rattle.all_ends.proofs.Rules.{by_the_rules}
 
@@ -32,90 +34,57 @@ by_moves s z ms = each (λ m. ends_from ends_of (move_at s z m)) ms
 -- the turns that are left to an alternative, and to a pattern 2 * turns-left + 1
 abbrev pub left_of : Option Pattern → ℕ
 left_of None = 0
-left_of (Some q) = 2 * turns_left q.rows + 2
+left_of (Some q) = 2 * turns_left (seats q.rows) + 2
 
 -- the ends go by the turn
 module _ (P : Pattern) (len : length P.rows ≡ 16) where
   abbrev s : Shape
   s = shape_of P
 
-  by_its_turn : (t : Turn) → t ≡ turn_of P.rows → ends_of s ≡ by_turn ends_of s t
+  pub by_its_turn : (t : Turn) → t ≡ turn_of (seats P.rows) → ends_of s ≡ by_turn ends_of s t
   by_its_turn t e = by_the_rules s (good_pattern P len) ∙ ap (by_turn ends_of s) (sym e)
 
-  pub ends_kept : Kept ≡ turn_of P.rows → ends_of s ≡ Some s ∷ []
-  unfolding by_turn
-  ends_kept e = by_its_turn Kept e
+  -- where one alternative takes the pattern's place
+  pub ends_one : (t : Turn) → t ≡ turn_of (seats P.rows) → (o : Option Pattern) (x : Option Shape) → option_map shape_of o ≡ x → by_turn ends_of s t ≡ ends_from ends_of x ++ [] →
+      ends_from ends_of (option_map shape_of o) ≡ ends_of s
+  ends_one t e o x h k = sym (by_its_turn t e ∙ k ∙ append-nil _ ∙ ap (ends_from ends_of) (sym h))
 
-  pub ends_dropped : Dropped ≡ turn_of P.rows → ends_of s ≡ None ∷ []
-  unfolding by_turn
-  ends_dropped e = by_its_turn Dropped e
-
-  pub ends_merged : (z : ℕ) → Merge z ≡ turn_of P.rows → (o : Option Pattern) → option_map shape_of o ≡ merge_at s z → ends_from ends_of (option_map shape_of o) ≡ ends_of s
-  unfolding by_turn alternatives
-  ends_merged z e o h = sym (by_its_turn (Merge z) e ∙ append-nil _ ∙ ap (ends_from ends_of) (sym h))
-
-  pub ends_split : (z : ℕ) (x : Axis) → Split z x ≡ turn_of P.rows → (o : Option Pattern) → option_map shape_of o ≡ axis_at s z x → (m : Option Shape) → m ≡ merge_at s z →
+  pub ends_split : (z : ℕ) (x : Axis) → Split z x ≡ turn_of (seats P.rows) → (o : Option Pattern) → option_map shape_of o ≡ axis_at s z x → (m : Option Shape) → m ≡ merge_at s z →
       ends_from ends_of (option_map shape_of o) ++ ends_from ends_of m ≡ ends_of s
   unfolding by_turn alternatives
   ends_split z x e o h m k =
       sym (by_its_turn (Split z x) e ∙ ap₂ (λ a b. a ++ b) (ap (ends_from ends_of) (sym h)) (append-nil _ ∙ ap (ends_from ends_of) (sym k)))
 
-  pub ends_opened : (z : ℕ) (x : Axis) → Open z x ≡ turn_of P.rows → (o : Option Pattern) → option_map shape_of o ≡ open_at s z x → ends_from ends_of (option_map shape_of o) ≡ ends_of s
-  unfolding by_turn alternatives
-  ends_opened z x e o h = sym (by_its_turn (Open z x) e ∙ append-nil _ ∙ ap (ends_from ends_of) (sym h))
-
   each_map : (f : Move → Option Shape) (ms : List Move) → each (ends_from ends_of) (map f ms) ≡ each (λ m. ends_from ends_of (f m)) ms
   each_map f [] = refl
   each_map f (m ∷ ms) = ap (λ l. ends_from ends_of (f m) ++ l) (each_map f ms)
 
-  pub ends_shifted : (z : ℕ) (upper lower : Step) → Shift z upper lower ≡ turn_of P.rows → (ms : List Move) → ms ≡ table upper lower → by_moves s z ms ≡ ends_of s
+  pub ends_shifted : (z : ℕ) (upper lower : Step) → Shift z upper lower ≡ turn_of (seats P.rows) → (ms : List Move) → ms ≡ table upper lower → by_moves s z ms ≡ ends_of s
   unfolding by_turn alternatives
   ends_shifted z upper lower e ms h = ap (by_moves s z) h ∙ sym (by_its_turn (Shift z upper lower) e ∙ each_map (move_at s z) (table upper lower))
 
-  -- fewer turns are left
-  less_at : (t : Turn) → t ≡ turn_of P.rows → Every (Less s) (alternatives s t)
-  less_at t e = subst (λ u. Every (Less s) (alternatives s u)) (sym e) (alternatives_less s (good_pattern P len))
-
-  fewer : (o : Option Pattern) → Less s (option_map shape_of o) → left_of o < 2 * turns_left P.rows + 1
+  -- fewer turns are left to each alternative, so that it may be gone on with
+  fewer : (o : Option Pattern) → Less s (option_map shape_of o) → left_of o < 2 * turns_left (seats P.rows) + 1
   fewer None h = omega arith
   fewer (Some q) h = let l = h.1 in omega arith
 
-  -- what going on with an alternative asks for
-  abbrev Ready : Option Pattern → Type 0
-  Ready o = left_of o < 2 * turns_left P.rows + 1
+  pub ready : (t : Turn) → t ≡ turn_of (seats P.rows) → (o : Option Pattern) → Among (option_map shape_of o) (alternatives s t) → (n : ℕ) → 2 * turns_left (seats P.rows) + 1 ≡ n → left_of o < n
+  ready t e o i n m =
+      let less = subst (λ u. Every (Less s) (alternatives s u)) (sym e) (alternatives_less s (good_pattern P len)) in
+      let l = fewer o (member (Less s) (alternatives s t) less (option_map shape_of o) i) in
+      omega arith
 
-  ready : (o : Option Pattern) (x : Option Shape) → option_map shape_of o ≡ x → Less s x → Ready o
-  ready o x e l = fewer o (subst (Less s) (sym e) l)
+  among_map : (f : Move → Option Shape) (ms : List Move) (i : ℕ) (d : Move) → i < length ms → Among (f (get_or ms i d)) (map f ms)
+  among_map f [] i d l = absurd (omega arith)
+  among_map f (m ∷ ms) zero d l = inl refl
+  among_map f (m ∷ ms) (suc i) d l = inr (among_map f ms i d (omega arith))
 
-  pub ready_merged : (z : ℕ) → Merge z ≡ turn_of P.rows → (o : Option Pattern) → option_map shape_of o ≡ merge_at s z → Ready o
+  pub among_moves : (z : ℕ) (upper lower : Step) (ms : List Move) → ms ≡ table upper lower → (i : ℕ) (d : Move) → i < length ms → (x : Option Shape) → x ≡ move_at s z (get_or ms i d) →
+      Among x (alternatives s (Shift z upper lower))
   unfolding alternatives
-  ready_merged z e o h = ready o _ h (less_at (Merge z) e).0
-
-  pub ready_axed : (z : ℕ) (x : Axis) → Split z x ≡ turn_of P.rows → (o : Option Pattern) → option_map shape_of o ≡ axis_at s z x → Ready o
-  unfolding alternatives
-  ready_axed z x e o h = ready o _ h (less_at (Split z x) e).0
-
-  pub ready_split : (z : ℕ) (x : Axis) → Split z x ≡ turn_of P.rows → (o : Option Pattern) → option_map shape_of o ≡ merge_at s z → Ready o
-  unfolding alternatives
-  ready_split z x e o h = ready o _ h (less_at (Split z x) e).1.0
-
-  pub ready_opened : (z : ℕ) (x : Axis) → Open z x ≡ turn_of P.rows → (o : Option Pattern) → option_map shape_of o ≡ open_at s z x → Ready o
-  unfolding alternatives
-  ready_opened z x e o h = ready o _ h (less_at (Open z x) e).0
-
-  every_at : (F : Option Shape → Type 0) (f : Move → Option Shape) (ms : List Move) (i : ℕ) (d : Move) → i < length ms → Every F (map f ms) → F (f (get_or ms i d))
-  every_at F f [] i d l h = absurd (omega arith)
-  every_at F f (m ∷ ms) zero d l h = h.0
-  every_at F f (m ∷ ms) (suc i) d l h = every_at F f ms i d (omega arith) h.1
-
-  pub ready_shifted : (z : ℕ) (upper lower : Step) → Shift z upper lower ≡ turn_of P.rows → (ms : List Move) → ms ≡ table upper lower → (i : ℕ) (d : Move) → i < length ms →
-      (o : Option Pattern) → option_map shape_of o ≡ move_at s z (get_or ms i d) → Ready o
-  unfolding alternatives
-  ready_shifted z upper lower e ms f i d l o h =
-      ready o _ h (at (Less s) (less_at (Shift z upper lower) e))
-    where
-      at : (F : Option Shape → Type 0) → Every F (map (move_at s z) (table upper lower)) → F (move_at s z (get_or ms i d))
-      at F g = every_at F (move_at s z) ms i d l (subst (λ x. Every F (map (move_at s z) x)) (sym f) g)
+  among_moves z upper lower ms f i d l x h =
+      let A : List Move → Option Shape → Type 0 = λ ms y. Among y (map (move_at s z) ms) in
+      subst (A (table upper lower)) (sym h) (subst (λ ms'. A ms' (move_at s z (get_or ms i d))) f (among_map (move_at s z) ms i d l))
 
 -- the ends so far, and what comes then
 pub reached_first : (a b c : Ends) (xs ys : List (Option Shape)) (e : Refusal) → Reached a xs (Err e) b → Reached a (xs ++ ys) (Err e) c
@@ -127,20 +96,16 @@ reached_then a b c xs ys (Ok u) g h = grown_append a b c xs ys g h
 reached_then a b c xs ys (Err e) g (inl m) = inl m
 reached_then a b c xs ys (Err e) g (inr m) = inr (m.0, many_then a b xs ys g m.1)
 
-each_append : {A B : Type 0} (f : A → List B) (xs ys : List A) → each f (xs ++ ys) ≡ each f xs ++ each f ys
-each_append f [] ys = refl
-each_append f (x ∷ xs) ys = ap (λ l. f x ++ l) (each_append f xs ys) ∙ sym (append_assoc (f x) (each f xs) (each f ys))
-
 module _ (s : Shape) (z : ℕ) (ms : List Move) (i : ℕ) (d : Move) (l : i < length ms) where
   abbrev here : List (Option Shape)
   here = ends_from ends_of (move_at s z (get_or ms i d))
 
   moves_more : by_moves s z (take (i + 1) ms) ≡ by_moves s z (take i ms) ++ here
-  moves_more = ap (by_moves s z) (take_more ms i d l) ∙ each_append _ (take i ms) (get_or ms i d ∷ []) ∙ ap (λ x. by_moves s z (take i ms) ++ x) (append-nil here)
+  moves_more = ap (by_moves s z) (take_more ms i d l) ∙ flat_map-append _ (take i ms) (get_or ms i d ∷ []) ∙ ap (λ x. by_moves s z (take i ms) ++ x) (append-nil here)
 
   moves_all : by_moves s z (take i ms) ++ (here ++ by_moves s z (drop (i + 1) ms)) ≡ by_moves s z ms
   moves_all =
-      sym (ap (by_moves s z) (sym (take-append-drop i ms)) ∙ each_append _ (take i ms) (drop i ms)
+      sym (ap (by_moves s z) (sym (take-append-drop i ms)) ∙ flat_map-append _ (take i ms) (drop i ms)
       ∙ ap (λ x. by_moves s z (take i ms) ++ by_moves s z x) (drop_more ms i d l))
 
   pub turn_more : (a b c : Ends) → Grown a (by_moves s z (take i ms)) b → Grown b here c → Grown a (by_moves s z (take (i + 1) ms)) c
@@ -153,7 +118,7 @@ pub turns_done : (s : Shape) (z : ℕ) (ms : List Move) (i : ℕ) → length ms 
 turns_done s z ms i l a b g = subst (λ x. Grown a (by_moves s z x) b) (take_all i ms l) g
 
 -- an end that is kept
-pub kept_end : (P : Pattern) (o : Option Forward) → all_along P.rows ≡ true → MatchOption o (all_along P.rows ≡ false) (λ f. f.pattern ≡ P) → option_map forward_shape o ≡ Some (shape_of P)
+pub kept_end : (P : Pattern) (o : Option Forward) → all_along (seats P.rows) ≡ true → MatchOption o (all_along (seats P.rows) ≡ false) (λ f. f.pattern ≡ P) → option_map forward_shape o ≡ Some (shape_of P)
 kept_end P None t h = absurd (both_ways _ h t)
 kept_end P (Some f) t h = ap {B = Option Shape} (λ Q. Some (shape_of Q)) h
 

@@ -10,8 +10,7 @@ use Rattle.ways.specs.Ways.{upd, In}
 use Rattle.ways.proofs.Ends.{lsum, lsum_lt, lsum_bound}
 use Rattle.ways.proofs.RowSums.{upd_same, upd_other}
 use Rattle.pattern.specs.Questions.{pattern_of}
-use Rattle.pattern.specs.Rows.{row, fifteen, rooted, second, rehung}
-use Rattle.pattern.specs.declared.row.Row.{Row}
+use Rattle.pattern.specs.Rows.{Seat, row, fifteen, rooted, second, rehung}
 use Rattle.pattern.proofs.MergedRows.{none}
 use Rattle.pattern.proofs.Moved.{hung_used, hung_up}
 use Rattle.pattern.proofs.Trees.{height, tree_of, in_rows, in_fifteen}
@@ -35,23 +34,23 @@ back (Against s) = 1
 back Itself = 0
 back (Wide x) = 0
 
-abbrev pub costs : List Row → ℕ
+abbrev pub costs : List Seat → ℕ
 costs rs = weigh (used_only (λ r. cost r.axis)) rs
 
-abbrev pub backs : List Row → ℕ
+abbrev pub backs : List Seat → ℕ
 backs rs = weigh (used_only (λ r. back r.axis)) rs
 
-abbrev ups : List Row → ℕ → ℕ
+abbrev ups : List Seat → ℕ → ℕ
 ups rs i = (row rs i).up
 
 -- how far a row in use is from row 0
-abbrev far : List Row → ℕ → ℕ
+abbrev far : List Seat → ℕ → ℕ
 far rs i = cond (row rs i).used (height (ups rs) 16 i) 0
 
-unfoldable pub heights : List Row → ℕ
+unfoldable pub heights : List Seat → ℕ
 heights rs = lsum (far rs) fifteen
 
-pub turns_left : List Row → ℕ
+pub turns_left : List Seat → ℕ
 turns_left rs = costs rs * 4096 + (backs rs * 256 + heights rs)
 
 cost_le : (a : Axis) → cost a ≤ 5
@@ -69,13 +68,13 @@ back_le (Against s) = omega arith
 back_le Itself = omega arith
 back_le (Wide x) = omega arith
 
-used_le : (c : Axis → ℕ) (K : ℕ) → ((a : Axis) → c a ≤ K) → (r : Row) → used_only (λ r. c r.axis) r ≤ K
+used_le : (c : Axis → ℕ) (K : ℕ) → ((a : Axis) → c a ≤ K) → (r : Seat) → used_only (λ r. c r.axis) r ≤ K
 used_le c K h r = let l = h r.axis in elim (cases_Bool r.used) [ inl e ↦ rw e l | inr e ↦ rw e (omega arith) ]
 
-costs_le : (rs : List Row) → costs rs ≤ 75
+costs_le : (rs : List Seat) → costs rs ≤ 75
 costs_le rs = weigh_bound (used_only (λ r. cost r.axis)) 5 (used_le cost 5 cost_le) rs
 
-backs_le : (rs : List Row) → backs rs ≤ 15
+backs_le : (rs : List Seat) → backs rs ≤ 15
 backs_le rs = weigh_bound (used_only (λ r. back r.axis)) 1 (used_le back 1 back_le) rs
 
 module _ (up : ℕ → ℕ) where
@@ -95,24 +94,24 @@ module _ (up : ℕ → ℕ) where
   height_under : (k r : ℕ) → r ≢ 0 → height up (suc k) r ≡ suc (height up k (up r))
   height_under k r n = let e : eqb r 0 ≡ false = ne_eqb r 0 n in rw e refl
 
-heights_le : (rs : List Row) → heights rs ≤ 240
+heights_le : (rs : List Seat) → heights rs ≤ 240
 unfolding heights
 heights_le rs = lsum_bound fifteen (far rs) 16 (λ i _. let h = height_le (ups rs) 16 i in elim (cases_Bool (row rs i).used) [ inl e ↦ rw e h | inr e ↦ rw e (omega arith) ])
 
 -- a million turns are more than enough
-pub turns_few : (rs : List Row) → turns_left rs < 999999
+pub turns_few : (rs : List Seat) → turns_left rs < 999999
 unfolding turns_left
 turns_few rs = let a = costs_le rs in let b = backs_le rs in let c = heights_le rs in omega arith
 
-pub fewer_costs : (rs rs' : List Row) → costs rs' < costs rs → turns_left rs' < turns_left rs
+pub fewer_costs : (rs rs' : List Seat) → costs rs' < costs rs → turns_left rs' < turns_left rs
 unfolding turns_left
 fewer_costs rs rs' h = let b = backs_le rs' in let c = heights_le rs' in omega arith
 
-pub fewer_backs : (rs rs' : List Row) → costs rs' ≡ costs rs → backs rs' < backs rs → turns_left rs' < turns_left rs
+pub fewer_backs : (rs rs' : List Seat) → costs rs' ≡ costs rs → backs rs' < backs rs → turns_left rs' < turns_left rs
 unfolding turns_left
 fewer_backs rs rs' e h = let c = heights_le rs' in omega arith
 
-pub less_far : (rs rs' : List Row) → costs rs' ≡ costs rs → backs rs' ≡ backs rs → heights rs' < heights rs → turns_left rs' < turns_left rs
+pub less_far : (rs rs' : List Seat) → costs rs' ≡ costs rs → backs rs' ≡ backs rs → heights rs' < heights rs → turns_left rs' < turns_left rs
 unfolding turns_left
 less_far rs rs' e f h = omega arith
 
@@ -149,11 +148,11 @@ module _ (up : ℕ → ℕ) (z y w : ℕ) (up_z : up z ≡ y) (up_y : up y ≡ w
           let c = height_one_more up j w in
           omega arith
 
-module _ (rs : List Row) (len : length rs ≡ 16) (ok : rooted rs ≡ true) (z : ℕ) (low : 1 ≤ z) (high : z < 16) (used : (row rs z).used ≡ true) (below : 1 ≤ (row rs z).up) where
+module _ (rs : List Seat) (len : length rs ≡ 16) (ok : rooted rs ≡ true) (z : ℕ) (low : 1 ≤ z) (high : z < 16) (used : (row rs z).used ≡ true) (below : 1 ≤ (row rs z).up) where
   abbrev y : ℕ
   y = (row rs z).up
 
-  abbrev rs' : List Row
+  abbrev rs' : List Seat
   rs' = rehung rs z (second rs z) (row rs z).axis
 
   ups_risen : ◌≡◌ {A = ℕ → ℕ} (ups rs') (upd (ups rs) z (second rs z))

@@ -1,11 +1,13 @@
 -- The highest number in use.
-use Rattle.std.proofs.Common.{◌≡◌, ℕ, zero, suc, ◌+◌, ◌-◌, ◌<◌, ◌≤◌, true, false, ◌⊎◌, List, sym, refl, subst, inl, inr, arith}
+use Rattle.std.proofs.Common.{◌≡◌, ℕ, zero, suc, ◌+◌, ◌<◌, ◌≤◌, true, false, ◌⊎◌, List, None, Option, slice_index_or, sym, ◌∙◌, refl, subst, inl, inr, arith}
+use Rattle.std.specs.Prelude.{is_some}
 use Rattle.std.proofs.lemmas.Bool.{cases_Bool, cases_eq, cases_lt, both_ways}
-use Rattle.pattern.specs.Rows.{row}
+use Rattle.pattern.specs.Rows.{Seat, seats, row}
 use Rattle.pattern.specs.declared.row.Row.{Row}
+use Rattle.pattern.proofs.Lookups.{used_at}
 use Rattle.all_ends.specs.Ends.{highest, next_number}
 
-module _ (rs : List Row) where
+module _ (rs : List Seat) where
   at_used : (k : ℕ) → (row rs (suc k)).used ≡ true → highest rs (suc k) ≡ suc k
   unfolding highest
   at_used k u = rw u refl
@@ -13,28 +15,6 @@ module _ (rs : List Row) where
   at_free : (k : ℕ) → (row rs (suc k)).used ≡ false → highest rs (suc k) ≡ highest rs k
   unfolding highest
   at_free k u = rw u refl
-
-  pub highest_none : 1 ≡ highest rs 0 + 1
-  unfolding highest
-  highest_none = refl
-
-  -- one row more
-  pub highest_used : (i next : ℕ) → 1 ≤ i → (row rs i).used ≡ true → next ≡ i + 1 → next ≡ highest rs (i + 1 - 1) + 1
-  highest_used zero next h u e = absurd (omega arith)
-  highest_used (suc k) next h u e =
-      let m : suc k + 1 - 1 ≡ suc k = omega arith in
-      subst (λ j. next ≡ highest rs j + 1) (sym m) (rw (at_used k u) e)
-
-  pub highest_free : (i next : ℕ) → 1 ≤ i → (row rs i).used ≡ false → next ≡ highest rs (i - 1) + 1 → next ≡ highest rs (i + 1 - 1) + 1
-  highest_free zero next h u e = absurd (omega arith)
-  highest_free (suc k) next h u e =
-      let m : suc k + 1 - 1 ≡ suc k = omega arith in
-      let n : suc k - 1 ≡ k = omega arith in
-      subst (λ j. next ≡ highest rs j + 1) (sym m) (rw (at_free k u) (subst (λ j. next ≡ highest rs j + 1) n e))
-
-  pub highest_all : (i next : ℕ) → i ≡ 16 → next ≡ highest rs (i - 1) + 1 → next ≡ next_number rs
-  unfolding next_number
-  highest_all i next e h = subst (λ j. next ≡ highest rs j + 1) (let m : i - 1 ≡ 15 = omega arith in m) h
 
   -- every number above it is free
   pub highest_le : (k : ℕ) → highest rs k ≤ k
@@ -69,5 +49,18 @@ module _ (rs : List Row) where
   pub highest_bound : (k B : ℕ) → ((i : ℕ) → i ≤ k → (row rs i).used ≡ true → i ≤ B) → highest rs k ≤ B
   highest_bound k B h = elim (highest_is k) [ inl e ↦ omega arith | inr u ↦ h (highest rs k) (highest_le k) u ]
 
-  pub highest_few : (i next : ℕ) → i ≡ 16 → next ≡ highest rs (i - 1) + 1 → next ≤ 16
-  highest_few i next e h = let l = highest_le (i - 1) in omega arith
+-- the last row in use tells it, and that there is none
+module _ (rows : List (Option Row)) where
+  used : (i : ℕ) → (row (seats rows) i).used ≡ is_some (slice_index_or rows i None)
+  used i = used_at rows i (slice_index_or rows i None) refl
+
+  pub next_after : (i : ℕ) → i < 16 → is_some (slice_index_or rows i None) ≡ true → ((k : ℕ) → i < k → k < 16 → is_some (slice_index_or rows k None) ≡ false) → i + 1 ≡ next_number (seats rows)
+  unfolding next_number
+  next_after i l u h =
+      let low = used_below (seats rows) 15 i (omega arith) (used i ∙ u) in
+      let high = highest_bound (seats rows) 15 i (λ k m v. elim (cases_lt i k) [ inl n ↦ absurd (both_ways _ (h k n (omega arith)) (sym (used k) ∙ v)) | inr n ↦ n ]) in
+      omega arith
+
+  pub next_first : ((k : ℕ) → k < 16 → is_some (slice_index_or rows k None) ≡ false) → 1 ≡ next_number (seats rows)
+  unfolding next_number
+  next_first h = let high = highest_bound (seats rows) 15 0 (λ k m v. absurd (both_ways _ (h k (omega arith)) (sym (used k) ∙ v))) in omega arith

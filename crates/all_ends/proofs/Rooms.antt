@@ -11,39 +11,38 @@ use Rattle.record.specs.declared.rules.Move.TheVariants.{Up, Join, Between}
 use Rattle.ways.specs.Rewriting.{Every}
 use Rattle.ways.specs.Ways.{upd}
 use Rattle.ways.proofs.RowSums.{upd_other}
-use Rattle.pattern.specs.Rows.{row, inner, deep, room, free_two, hung, second, rehung, spread, MergedInto, MovedTo}
+use Rattle.pattern.specs.Rows.{Seat, row, inner, deep, room, free_two, hung, second, rehung, spread, MergedInto, MovedTo}
 use Rattle.pattern.specs.Sizes.{how_many}
-use Rattle.pattern.specs.declared.row.Row.{Row}
 use Rattle.pattern.proofs.MergedRows.{up_within}
 use Rattle.pattern.proofs.Moved.{inner_parts, deep_parts, room_parts, y_high, hung_used}
 use Rattle.pattern.proofs.Spreads.{used_at}
 use Rattle.all_ends.specs.Ends.{Shape, shaped, merge_into, merge_at, axis_at, highest, next_number, open_at, by_move, move_at, alternatives, widens, to_open, fits}
-use Rattle.rewrite.specs.Turns.{turn_of, Told}
+use Rattle.rewrite.specs.Turns.{turn_of}
 use Rattle.rewrite.specs.declared.turns.Turn.{Turn}
 use Rattle.rewrite.specs.declared.turns.Turn.TheVariants.{Kept, Dropped, Merge, Split, Open, Shift}
-use Rattle.all_ends.proofs.Changed.{Good, pattern_with, MergeKnown, merge_known, MoveKnown, move_known}
+use Rattle.all_ends.proofs.Changed.{Good, MergeKnown, merge_known, MoveKnown, move_known}
 use Rattle.all_ends.proofs.Changes.{used_only, rehung_weigh, merged_weigh, spread_weigh, gone, come, moved_weigh}
 use Rattle.all_ends.proofs.Counts.{weigh, weigh_cong, how_many_weigh}
 use Rattle.all_ends.proofs.Falling.{every_map, every_imp}
 use Rattle.all_ends.proofs.Numbers.{above_free, used_below, highest_bound}
-use Rattle.rewrite.proofs.Telling.{told}
+use Rattle.rewrite.proofs.Telling.{Seen, seen}
 
 -- rows still to be opened
 abbrev pub opening : Axis → ℕ
 opening x = bit (widens x)
 
-abbrev pub openings : List Row → ℕ
+abbrev pub openings : List Seat → ℕ
 openings rs = weigh (used_only (λ r. opening r.axis)) rs
 
 pub bit_and : (a b : Bool) → bit (a && b) ≡ cond a (bit b) 0
 bit_and true b = refl
 bit_and false b = refl
 
-pub count_openings : (rs : List Row) → how_many to_open rs ≡ openings rs
+pub count_openings : (rs : List Seat) → how_many to_open rs ≡ openings rs
 count_openings rs = how_many_weigh to_open rs ∙ weigh_cong (λ r. bit (to_open r)) (used_only (λ r. opening r.axis)) (λ r. bit_and r.used (widens r.axis)) rs
 
 -- the new rows have numbers
-abbrev pub Numbered : List Row → Type 0
+abbrev pub Numbered : List Seat → Type 0
 Numbered rs = highest rs 15 + 2 * openings rs ≤ 15
 
 pub fits_numbered : (s : Shape) → fits s ≡ true → Numbered s.rows
@@ -56,17 +55,17 @@ NoHigher s None = Unit {0}
 NoHigher s (Some q) = highest q.rows 15 + 2 * openings q.rows ≤ highest s.rows 15 + 2 * openings s.rows
 
 -- fewer rows in use
-fewer_used : (rs q : List Row) → ((i : ℕ) → (row q i).used ≡ true → (row rs i).used ≡ true) → highest q 15 ≤ highest rs 15
+fewer_used : (rs q : List Seat) → ((i : ℕ) → (row q i).used ≡ true → (row rs i).used ≡ true) → highest q 15 ≤ highest rs 15
 fewer_used rs q h = highest_bound q 15 (highest rs 15) (λ i l u. used_below rs 15 i l (h i u))
 
-merged_used : (rs q : List Row) (z w : ℕ) → MergedInto rs z w q → (i : ℕ) → (row q i).used ≡ true → (row rs i).used ≡ true
+merged_used : (rs q : List Seat) (z w : ℕ) → MergedInto rs z w q → (i : ℕ) → (row q i).used ≡ true → (row rs i).used ≡ true
 merged_used rs q z w (t, e, h) i u = elim (cases_eq i z) [
   | inl k ↦ absurd (both_ways _ (ap (λ r. r.used) (h i) ∙ ap (λ b. cond b false (row rs i).used) (eq-eqb i z k)) u)
   | inr k ↦ sym (ap (λ r. r.used) (h i) ∙ ap (λ b. cond b false (row rs i).used) (ne_eqb i z k)) ∙ u
 ]
 
 module _ (s : Shape) (g : Good s) (z : ℕ) where
-  abbrev rs : List Row
+  abbrev rs : List Seat
   rs = s.rows
 
   merged_higher : inner rs z ≡ true → NoHigher s (merge_at s z)
@@ -117,7 +116,7 @@ module _ (s : Shape) (g : Good s) (z : ℕ) where
           ]) in
           omega arith
 
-  moved_used : deep rs z ≡ true → (m : Move) (q : List Row) → MovedTo rs z m q → (i : ℕ) → (row q i).used ≡ true → (row rs i).used ≡ true
+  moved_used : deep rs z ≡ true → (m : Move) (q : List Seat) → MovedTo rs z m q → (i : ℕ) → (row q i).used ≡ true → (row rs i).used ≡ true
   moved_used d m q h i u =
       let (low, high, used, below) = deep_parts rs z g.whole d in
       go m h (y_high rs g.whole g.ok z low high used below) high
@@ -125,7 +124,7 @@ module _ (s : Shape) (g : Good s) (z : ℕ) where
       go : (m : Move) → MovedTo rs z m q → (row rs z).up < 16 → z < 16 → (row rs i).used ≡ true
       go Up e k l = rehung_used z (second rs z) (row rs z).axis l i (subst (λ x. (row x i).used ≡ true) e u)
       go (Between a b) e k l =
-          let one : List Row = rehung rs z (second rs z) (Along a) in
+          let one : List Seat = rehung rs z (second rs z) (Along a) in
           let len : length one ≡ 16 = length-set rs z (hung (row rs z) (second rs z) (Along a)) ∙ g.whole in
           rehung_used z (second rs z) (Along a) l i (sym (hung_used one (row rs z).up z (Along b) (omega arith) i) ∙ subst (λ x. (row x i).used ≡ true) e u)
       go (Join a) e k l = rehung_used (row rs z).up (second rs z) (Along a) k i (merged_used (rehung rs (row rs z).up (second rs z) (Along a)) q z (second rs z) e i u)
@@ -134,7 +133,7 @@ module _ (s : Shape) (g : Good s) (z : ℕ) where
   unfolding move_at
   moved_higher d sY sZ aY aZ m = rw d (go (by_move s z m) (move_known s g z d m))
     where
-      no_more : (m : Move) (q : List Row) → openings q + gone 0 m ≡ openings rs + come 0 m → openings q ≤ openings rs
+      no_more : (m : Move) (q : List Seat) → openings q + gone 0 m ≡ openings rs + come 0 m → openings q ≤ openings rs
       no_more Up q e = omega arith
       no_more (Between a b) q e = omega arith
       no_more (Join a) q e = omega arith
@@ -148,9 +147,9 @@ module _ (s : Shape) (g : Good s) (z : ℕ) where
 
 alternatives_higher : (s : Shape) (g : Good s) → Every (NoHigher s) (alternatives s (turn_of s.rows))
 unfolding alternatives
-alternatives_higher s g = go (turn_of s.rows) (told (pattern_with s g) g.whole)
+alternatives_higher s g = go (turn_of s.rows) (seen s.rows g.whole g.ok)
   where
-    go : (t : Turn) → Told (pattern_with s g) t → Every (NoHigher s) (alternatives s t)
+    go : (t : Turn) → Seen s.rows t → Every (NoHigher s) (alternatives s t)
     go Kept h = tt
     go Dropped h = tt
     go (Merge z) (i, a) = (merged_higher s g z i, tt)
@@ -161,7 +160,7 @@ alternatives_higher s g = go (turn_of s.rows) (told (pattern_with s g) g.whole)
         let c : opening (row s.rows z).axis ≡ 1 = elim o [ inl (a, b) ↦ ap opening a | inr (a, b) ↦ ap opening a ] in
         let d : opening x ≡ 0 = elim o [ inl (a, b) ↦ ap opening b | inr (a, b) ↦ ap opening b ] in
         (opened_higher s g z x d c, tt)
-    go (Shift z upper lower) (d, a, b) = every_map (NoHigher s) (move_at s z) (table upper lower) (moved_higher s g z d upper lower a b)
+    go (Shift z upper lower) ((d, a, b), n) = every_map (NoHigher s) (move_at s z) (table upper lower) (moved_higher s g z d upper lower a b)
 
 -- so every alternative has numbers for its new rows too
 abbrev pub Fit : Option Shape → Type 0
@@ -176,7 +175,7 @@ alternatives_fit s g f = every_imp (NoHigher s) Fit _ one (alternatives_higher s
     one (Some q) h = omega arith
 
 -- and a row that is to be opened can be
-pub has_room : (rs : List Row) (z : ℕ) → length rs ≡ 16 → Numbered rs → inner rs z ≡ true → widens (row rs z).axis ≡ true → room rs z (next_number rs) ≡ true
+pub has_room : (rs : List Seat) (z : ℕ) → length rs ≡ 16 → Numbered rs → inner rs z ≡ true → widens (row rs z).axis ≡ true → room rs z (next_number rs) ≡ true
 unfolding room free_two
 has_room rs z len f i w =
     let (low, high, used) = inner_parts rs z len i in

@@ -12,9 +12,8 @@ use Rattle.record.specs.declared.rules.Move.TheVariants.{Up, Join, Between}
 use Rattle.ways.specs.Rewriting.{Every, strays}
 use Rattle.ways.specs.Ways.{In}
 use Rattle.ways.proofs.RowSums.{upd_same, upd_other}
-use Rattle.pattern.specs.Rows.{row, fifteen, inner, deep, room, hung, second, rehung, spread, MovedTo, moved_output}
+use Rattle.pattern.specs.Rows.{Seat, row, fifteen, inner, deep, room, hung, second, rehung, spread, MovedTo, moved_output}
 use Rattle.pattern.specs.Sizes.{how_many, in_use, at_top, forks}
-use Rattle.pattern.specs.declared.row.Row.{Row}
 use Rattle.pattern.proofs.MergedRows.{up_within, up_apart}
 use Rattle.pattern.proofs.Moved.{inner_parts, deep_parts, room_parts, y_high, y_used, hung_used, hung_up, hung_axis, upd_id}
 use Rattle.pattern.proofs.Trees.{in_fifteen}
@@ -22,9 +21,9 @@ use Rattle.all_ends.specs.Ends.{Shape, shaped, merge_into, merge_at, axis_at, ne
 use Rattle.rewrite.specs.Turns.{first_some, expansion_by, turn_of}
 use Rattle.rewrite.specs.declared.turns.Turn.{Turn}
 use Rattle.rewrite.specs.declared.turns.Turn.TheVariants.{Kept, Dropped, Merge, Split, Open, Shift}
-use Rattle.all_ends.proofs.Changed.{Good, pattern_with, MergeKnown, merge_known, MoveKnown, move_known}
+use Rattle.all_ends.proofs.Changed.{Good, MergeKnown, merge_known, MoveKnown, move_known}
 use Rattle.all_ends.proofs.Changes.{used_only, rehung_weigh, merged_weigh, spread_weigh, gone, come, moved_weigh}
-use Rattle.all_ends.proofs.Counts.{weigh, weigh_cong, how_many_weigh}
+use Rattle.all_ends.proofs.Counts.{weigh, weigh_cong, how_many_weigh, bit_cond}
 use Rattle.all_ends.proofs.Falling.{every_map}
 use Rattle.all_ends.proofs.Rooms.{opening, openings, count_openings, bit_and}
 use Rattle.rewrite.proofs.Telling.{Seen, seen, expansion_at, straying_at, first_expansion, first_straying}
@@ -33,17 +32,13 @@ use Rattle.rewrite.proofs.Telling.{Seen, seen, expansion_at, straying_at, first_
 abbrev one_each : Axis → ℕ
 one_each x = 1
 
-abbrev tops : Row → ℕ
+abbrev tops : Seat → ℕ
 tops r = bit (eqb r.up 0)
 
-bit_used : (b : Bool) → bit b ≡ cond b 1 0
-bit_used true = refl
-bit_used false = refl
+count_used : (rs : List Seat) → in_use rs ≡ weigh (used_only (λ r. one_each r.axis)) rs
+count_used rs = how_many_weigh (λ r. r.used) rs ∙ weigh_cong (λ r. bit r.used) (used_only (λ r. one_each r.axis)) (λ r. bit_cond r.used) rs
 
-count_used : (rs : List Row) → in_use rs ≡ weigh (used_only (λ r. one_each r.axis)) rs
-count_used rs = how_many_weigh (λ r. r.used) rs ∙ weigh_cong (λ r. bit r.used) (used_only (λ r. one_each r.axis)) (λ r. bit_used r.used) rs
-
-count_tops : (rs : List Row) → at_top rs ≡ weigh (used_only tops) rs
+count_tops : (rs : List Seat) → at_top rs ≡ weigh (used_only tops) rs
 count_tops rs = how_many_weigh (λ r. r.used && eqb r.up 0) rs ∙ weigh_cong (λ r. bit (r.used && eqb r.up 0)) (used_only tops) (λ r. bit_and r.used (eqb r.up 0)) rs
 
 bit_le : (b : Bool) → bit b ≤ 1
@@ -51,7 +46,7 @@ bit_le true = omega arith
 bit_le false = omega arith
 
 -- as many rows under row 0, with the same output
-same_forks : (rs q : List Row) (o p : ℕ) → weigh (used_only tops) q ≡ weigh (used_only tops) rs → p ≡ o → forks q p ≡ forks rs o
+same_forks : (rs q : List Seat) (o p : ℕ) → weigh (used_only tops) q ≡ weigh (used_only tops) rs → p ≡ o → forks q p ≡ forks rs o
 same_forks rs q o p e f = ap₂ (λ n k. bit (ltb (cond (eqb k 0) 0 1) n)) (count_tops q ∙ e ∙ sym (count_tops rs)) f
 
 -- the rows of an expanded pattern
@@ -86,11 +81,11 @@ first_only f (k ∷ L) t h r i e = elim (h k) [
   | inr n ↦ rw (first_some, n) refl
 ]
 
-module _ (rs : List Row) (len : length rs ≡ 16) (z : ℕ) (low : 1 ≤ z) (high : z < 16) (used : (row rs z).used ≡ true) (settled : first_expansion rs ≡ None) (sZ : Step) (aZ : (row rs z).axis ≡ Against sZ) where
+module _ (rs : List Seat) (len : length rs ≡ 16) (z : ℕ) (low : 1 ≤ z) (high : z < 16) (used : (row rs z).used ≡ true) (settled : first_expansion rs ≡ None) (sZ : Step) (aZ : (row rs z).axis ≡ Against sZ) where
   goes_astray : (w : ℕ) → w ≡ 0 → turn_of (rehung rs z w (row rs z).axis) ≡ Dropped
   goes_astray w e = rw (no_expansion, a_stray) refl
     where
-      q : List Row
+      q : List Seat
       q = rehung rs z w (row rs z).axis
 
       l : z < length rs
@@ -116,7 +111,7 @@ module _ (rs : List Row) (len : length rs ≡ 16) (z : ℕ) (low : 1 ≤ z) (hig
           rw (u, v, x) refl)
 
 module _ (s : Shape) (g : Good s) (z : ℕ) where
-  abbrev rs : List Row
+  abbrev rs : List Seat
   rs = s.rows
 
   merged_longer : inner rs z ≡ true → NoLonger s (merge_at s z)
@@ -138,7 +133,7 @@ module _ (s : Shape) (g : Good s) (z : ℕ) where
   unfolding axis_at
   axed_longer i x c =
       let (low, high, used) = inner_parts rs z g.whole i in
-      let q : List Row = rehung rs z (row rs z).up x in
+      let q : List Seat = rehung rs z (row rs z).up x in
       let a = rehung_weigh (λ r. opening r.axis) rs z (row rs z).up x low high g.whole used in
       let b = rehung_weigh (λ r. one_each r.axis) rs z (row rs z).up x low high g.whole used in
       let d = rehung_weigh tops rs z (row rs z).up x low high g.whole used in
@@ -162,7 +157,7 @@ module _ (s : Shape) (g : Good s) (z : ℕ) where
       go true e =
           let (i, first, last, free, spare) = room_parts rs z n g.whole e in
           let (low, high, used) = inner_parts rs z g.whole i in
-          let q : List Row = spread rs z n (n + 1) x in
+          let q : List Seat = spread rs z n (n + 1) x in
           let c = spread_weigh (λ r. opening r.axis) rs z n (n + 1) x low high first (omega arith) (omega arith) (omega arith) (omega arith) g.whole used free spare in
           let d = spread_weigh (λ r. one_each r.axis) rs z n (n + 1) x low high first (omega arith) (omega arith) (omega arith) (omega arith) g.whole used free spare in
           let t = spread_weigh tops rs z n (n + 1) x low high first (omega arith) (omega arith) (omega arith) (omega arith) g.whole used free spare in
@@ -226,7 +221,7 @@ module _ (s : Shape) (g : Good s) (z : ℕ) where
               longer q f a 0 b
         ]
         by (Between x t) q e o a b =
-            let one : List Row = rehung rs z (second rs z) (Along x) in
+            let one : List Seat = rehung rs z (second rs z) (Along x) in
             let l : length one ≡ 16 = length-set rs z (hung (row rs z) (second rs z) (Along x)) ∙ g.whole in
             let yh = y_high rs g.whole g.ok z low high used below in
             let lz : z < length rs = let w = g.whole in let h = high in omega arith in
@@ -253,9 +248,9 @@ module _ (s : Shape) (g : Good s) (z : ℕ) where
 
 pub alternatives_no_longer : (s : Shape) (g : Good s) → Every (NoLonger s) (alternatives s (turn_of s.rows))
 unfolding alternatives
-alternatives_no_longer s g = go (turn_of s.rows) (seen (pattern_with s g) g.whole)
+alternatives_no_longer s g = go (turn_of s.rows) (seen s.rows g.whole g.ok)
   where
-    go : (t : Turn) → Seen (pattern_with s g) t → Every (NoLonger s) (alternatives s t)
+    go : (t : Turn) → Seen s.rows t → Every (NoLonger s) (alternatives s t)
     go Kept h = tt
     go Dropped h = tt
     go (Merge z) (i, a) = (merged_longer s g z i, tt)

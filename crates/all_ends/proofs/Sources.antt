@@ -1,39 +1,30 @@
 -- The patterns of a question, one after another.
-use Rattle.std.proofs.Common.{◌≡◌, ℕ, zero, suc, ◌+◌, ◌<◌, ◌≤◌, true, false, ◌&&◌, ◌⊎◌, List, [], ◌∷◌, ◌++◌, map, length, get_or, take, drop, IfOk, Ok, Err, vec_items, Option, Result, sym, refl, ap, ◌∙◌, subst, inl, inr, arith}
+use Rattle.std.proofs.Common.{◌≡◌, ℕ, ◌+◌, ◌*◌, ◌<◌, ◌≤◌, leb, true, ◌&&◌, ◌⊎◌, List, [], ◌∷◌, ◌++◌, map, length, get_or, take, drop, Err, vec_items, Option, Result, sym, refl, ap, ◌∙◌, subst, inl, inr, arith}
 use Rattle.std.specs.List.{flat_map as each}
-use Rattle.std.proofs.lemmas.List.{append-nil, append_assoc, take_all, take_more, take-append-drop, drop_more, drop_all, length-append}
-use Rattle.std.proofs.lemmas.Bool.{and_left, and_parts}
+use Rattle.std.proofs.lemmas.List.{append-nil, take_all, take_more, take-append-drop, drop_more, length-append}
+use Rattle.std.proofs.lemmas.Grind.{flat_map-append}
+use Rattle.std.proofs.lemmas.Bool.{eq-eqb, le-leb, lt-leb}
+use Rattle.pattern.specs.Rows.{seats}
+use Rattle.pattern.proofs.SeatLists.{seats_long}
+use Rattle.pattern.specs.Sizes.{how_many, path_rows}
 use Rattle.pattern.specs.declared.base.Pattern.{Pattern}
 use Rattle.refusal.specs.Memory.{no_memory}
 use Rattle.refusal.specs.declared.refusing.Refusal.{Refusal}
-use Rattle.all_ends.specs.Ends.{Shape, shape_of, ends_of, kept_of, question_ends, fits}
+use Rattle.all_ends.specs.Ends.{Shape, shape_of, ends_of, kept_of, question_ends, next_number, to_open, fits}
 use Rattle.all_ends.specs.Reached.{max_ends, too_many_ends, forward_shape, Grown, Reached}
 use Rattle.all_ends.specs.Rewritten.{all_fit, Finished, Outcome}
 use Rattle.all_ends.specs.declared.base.Ends.{Ends}
 use Rattle.all_ends.proofs.Accounts.{kept_append}
 
--- the first i of them fit
-pub fits_more : (Ps : List Pattern) (i : ℕ) (d : Pattern) → i < length Ps → fits (shape_of (get_or Ps i d)) ≡ true → all_fit (drop i Ps) ≡ all_fit (drop (i + 1) Ps)
-unfolding all_fit
-fits_more Ps i d l e = ap all_fit (drop_more Ps i d l) ∙ ap (λ b. b && all_fit (drop (i + 1) Ps)) e
+-- what is asked of a pattern, by the numbers that the code has for it: n the next number, m the rows to open, p the rows of a path
+module _ (P : Pattern) (len : length P.rows ≡ 16) (n m : ℕ) (e : n ≡ next_number (seats P.rows)) (f : m ≡ how_many to_open (seats P.rows)) where
+  pub fits_numbers : (p : ℕ) → p ≡ path_rows (seats P.rows) P.output → n + 2 * m ≤ 16 → leb (p + 2 * m) 15 ≡ fits (shape_of P)
+  unfolding fits
+  fits_numbers p g h = ap (λ b. b && leb (p + 2 * m) 15) (sym (le-leb (n + 2 * m) 16 h)) ∙ rw (e, f, g, eq-eqb (length (seats P.rows)) 16 (seats_long P.rows ∙ len)) refl
 
-pub fits_not : (Ps : List Pattern) (i : ℕ) (d : Pattern) → i < length Ps → fits (shape_of (get_or Ps i d)) ≡ false → all_fit (drop i Ps) ≡ false
-unfolding all_fit
-fits_not Ps i d l e = ap all_fit (drop_more Ps i d l) ∙ and_left _ _ e
-
-pub fits_all : (Ps : List Pattern) (i : ℕ) → length Ps ≤ i → all_fit (drop i Ps) ≡ true
-unfolding all_fit
-fits_all Ps i l = ap all_fit (drop_all i Ps l)
-
-pub fits_each : (Ps : List Pattern) → all_fit Ps ≡ true → (i : ℕ) (d : Pattern) → i < length Ps → fits (shape_of (get_or Ps i d)) ≡ true
-unfolding all_fit
-fits_each [] e i d l = absurd (omega arith)
-fits_each (P ∷ Ps) e zero d l = (and_parts _ _ e).0
-fits_each (P ∷ Ps) e (suc i) d l = fits_each Ps (and_parts _ _ e).1 i d (omega arith)
-
-each_append : {A B : Type 0} (f : A → List B) (xs ys : List A) → each f (xs ++ ys) ≡ each f xs ++ each f ys
-each_append f [] ys = refl
-each_append f (x ∷ xs) ys = ap (λ l. f x ++ l) (each_append f xs ys) ∙ sym (append_assoc (f x) (each f xs) (each f ys))
+  pub fits_no_numbers : 16 < n + 2 * m → leb (n + 2 * m) 16 ≡ fits (shape_of P)
+  unfolding fits
+  fits_no_numbers h = let k = lt-leb (n + 2 * m) 16 h in k ∙ rw (sym e, sym f, eq-eqb (length (seats P.rows)) 16 (seats_long P.rows ∙ len), k) refl
 
 -- the ends of one pattern more
 module _ (Ps : List Pattern) (i : ℕ) (d : Pattern) (l : i < length Ps) where
@@ -43,13 +34,13 @@ module _ (Ps : List Pattern) (i : ℕ) (d : Pattern) (l : i < length Ps) where
   ends_more : question_ends (take (i + 1) Ps) ≡ question_ends (take i Ps) ++ here
   unfolding question_ends
   ends_more =
-      ap (each (λ P. ends_of (shape_of P))) (take_more Ps i d l) ∙ each_append _ (take i Ps) (get_or Ps i d ∷ [])
+      ap (each (λ P. ends_of (shape_of P))) (take_more Ps i d l) ∙ flat_map-append _ (take i Ps) (get_or Ps i d ∷ [])
       ∙ ap (λ x. each (λ P. ends_of (shape_of P)) (take i Ps) ++ x) (append-nil here)
 
   ends_all : question_ends (take i Ps) ++ (here ++ question_ends (drop (i + 1) Ps)) ≡ question_ends Ps
   unfolding question_ends
   ends_all =
-      sym (ap (each (λ P. ends_of (shape_of P))) (sym (take-append-drop i Ps)) ∙ each_append _ (take i Ps) (drop i Ps)
+      sym (ap (each (λ P. ends_of (shape_of P))) (sym (take-append-drop i Ps)) ∙ flat_map-append _ (take i Ps) (drop i Ps)
       ∙ ap (λ x. each (λ P. ends_of (shape_of P)) (take i Ps) ++ each (λ P. ends_of (shape_of P)) x) (drop_more Ps i d l))
 
   pub finished_more : (a b : Ends) → Finished (take i Ps) a → Grown a here b → Finished (take (i + 1) Ps) b
@@ -80,11 +71,5 @@ finished_all Ps i a l f = subst (λ x. Finished x a) (take_all i Ps l) f
 abbrev Failed : List Pattern → Refusal → Type 0
 Failed Ps e = (e ≡ no_memory) ⊎ ((e ≡ too_many_ends) × (max_ends < length (question_ends Ps)))
 
-pub outcome_ends : (Ps : List Pattern) (a : Ends) → all_fit Ps ≡ true → Finished Ps a → Outcome Ps (Ok a)
-outcome_ends Ps a f h = rw f h
-
 pub outcome_fails : (Ps : List Pattern) (r : Result Ends Refusal) (x y : Refusal) → all_fit Ps ≡ true → r ≡ Err x → x ≡ y → Failed Ps y → Outcome Ps r
 outcome_fails Ps r x y f e g h = subst (Outcome Ps) (sym (e ∙ ap {B = Result Ends Refusal} Err g)) (rw f h)
-
-pub none_made : (r : Result Ends Refusal) (x : Refusal) (F : Ends → Type 0) → r ≡ Err x → IfOk r F
-none_made r x F e = subst (λ q. IfOk q F) (sym e) tt

@@ -17,9 +17,8 @@ use Rattle.ways.specs.Merging.{merged}
 use Rattle.ways.specs.Ways.{Weighted, Tree, value, weighted, held}
 use Rattle.ways.proofs.Whole.{dropped, total_append, map_append}
 use Rattle.pattern.specs.Questions.{label_at, pattern_of, test_gain, value_within, value_at}
-use Rattle.pattern.specs.Rows.{row, second, inner, deep, room, rehung, spread}
+use Rattle.pattern.specs.Rows.{Seat, row, second, inner, deep, room, rehung, spread}
 use Rattle.pattern.specs.declared.base.Pattern.{Pattern}
-use Rattle.pattern.specs.declared.row.Row.{Row}
 use Rattle.pattern.proofs.Kept.{self_kept, merged_kept, merged_dropped}
 use Rattle.pattern.proofs.MergedRows.{up_within}
 use Rattle.pattern.proofs.Moved.{inner_parts, deep_parts, room_parts}
@@ -28,7 +27,7 @@ use Rattle.all_ends.specs.Ends.{Shape, shape_of, merge_into, merge_at, axis_at, 
 use Rattle.rewrite.specs.Turns.{turn_of}
 use Rattle.rewrite.specs.declared.turns.Turn.{Turn}
 use Rattle.rewrite.specs.declared.turns.Turn.TheVariants.{Kept, Dropped, Merge, Split, Open, Shift}
-use Rattle.all_ends.proofs.Changed.{Good, pattern_with, MergeKnown, merge_known, MoveKnown, move_known}
+use Rattle.all_ends.proofs.Changed.{Good, MergeKnown, merge_known, MoveKnown, move_known}
 use Rattle.all_ends.proofs.Falling.{Less, alternatives_less}
 use Rattle.all_ends.proofs.Rooms.{Fit, Numbered, alternatives_fit, has_room}
 use Rattle.rewrite.proofs.Held.{moved_kept, moved_dropped, moves_kept, below_split, above_split, following_opened, preceding_opened}
@@ -40,7 +39,7 @@ module _ {T : Type 0} (S : Semiring T) (places : List Place) (rec : Record place
   abbrev v : ℕ → T
   v q = bracket S (eqb p q)
 
-  abbrev plain : List Row → Weighted T
+  abbrev plain : List Seat → Weighted T
   plain rs = pattern_of (test_gain S (label_at places)) rs
 
   -- what a pattern comes to with its output at p; nothing where there is none
@@ -57,7 +56,7 @@ module _ {T : Type 0} (S : Semiring T) (places : List Place) (rec : Record place
   worth_value P = refl
 
   module _ (s : Shape) (g : Good s) (z : ℕ) where
-    abbrev rs : List Row
+    abbrev rs : List Seat
     rs = s.rows
 
     abbrev merging : T
@@ -146,7 +145,7 @@ module _ {T : Type 0} (S : Semiring T) (places : List Place) (rec : Record place
         ∙ totals _ (move_at s z) (worth_moved d) (table sY sZ)
 
   -- a pattern that goes astray is worth nothing
-  worth_astray : (s : Shape) (g : Good s) → Stray (pattern_with s g) → worth (Some s) ≡ S.nought
+  worth_astray : (s : Shape) (g : Good s) → Stray s.rows → worth (Some s) ≡ S.nought
   unfolding worth
   worth_astray s g (r, low, high, used, a, u) =
       dropped S (depth_at places) (root_depth places rec) (all_steps places rec) (length places) rec.some_place
@@ -175,7 +174,7 @@ module _ {T : Type 0} (S : Semiring T) (places : List Place) (rec : Record place
   unfolding ends_within by_turn
   ends_kept zero s g h l = absurd (omega arith)
   ends_kept (suc f) s g h l =
-      go (turn_of s.rows) (seen (pattern_with s g) g.whole)
+      go (turn_of s.rows) (seen s.rows g.whole g.ok)
       (every_both (Less s) Fit (λ o. total S (map worth (ends_from (ends_within f) o)) ≡ worth o) (alternatives s (turn_of s.rows)) (one (λ q k i j. ends_kept f q k i (omega arith))) (alternatives_less s g) (alternatives_fit s g h))
     where
       every_both : (F G H : Option Shape → Type 0) (xs : List (Option Shape)) → ((x : Option Shape) → F x → G x → H x) → Every F xs → Every G xs → Every H xs
@@ -187,7 +186,7 @@ module _ {T : Type 0} (S : Semiring T) (places : List Place) (rec : Record place
       one again None a b = total_one (worth None)
       one again (Some q) a b = again q a.0 b a.1
 
-      go : (t : Turn) → Seen (pattern_with s g) t → Every (λ o. total S (map worth (ends_from (ends_within f) o)) ≡ worth o) (alternatives s t) → total S (map worth (by_turn (ends_within f) s t)) ≡ worth (Some s)
+      go : (t : Turn) → Seen s.rows t → Every (λ o. total S (map worth (ends_from (ends_within f) o)) ≡ worth o) (alternatives s t) → total S (map worth (by_turn (ends_within f) s t)) ≡ worth (Some s)
       go Kept k a = total_one (worth (Some s))
       go Dropped k a = total_one (worth None) ∙ unfold worth in sym (worth_astray s g k)
       go (Merge z) k a = total_each (ends_from (ends_within f)) _ ∙ total_every _ _ a ∙ unfold alternatives worth in total_one _ ∙ sym (worth_self s g z k.0 k.1)

@@ -8,11 +8,10 @@ use Rattle.record.specs.declared.axis.Axis.{Axis}
 use Rattle.record.specs.declared.axis.Axis.TheVariants.{Along, Against, Itself, Wide}
 use Rattle.record.specs.declared.rules.Move.{Move}
 use Rattle.record.specs.declared.rules.Move.TheVariants.{Up, Join, Between}
-use Rattle.pattern.specs.Rows.{row, inner, deep, room, second, rehung, spread, merged_row}
+use Rattle.pattern.specs.Rows.{Seat, seats, row, inner, deep, room, second, rehung, spread, merged_row}
 use Rattle.pattern.specs.Sizes.{how_many, path_rows}
 use Rattle.pattern.specs.Tests.{joined}
 use Rattle.pattern.specs.declared.base.Pattern.{Pattern}
-use Rattle.pattern.specs.declared.row.Row.{Row}
 use Rattle.pattern.specs.declared.row.Test.{Test}
 use Rattle.rewrite.specs.Turns.{turn_of}
 use Rattle.rewrite.specs.declared.turns.Turn.{Turn}
@@ -20,13 +19,13 @@ use Rattle.rewrite.specs.declared.turns.Turn.TheVariants.{Kept, Dropped, Merge, 
 
 -- the sixteen rows of a pattern, and its output
 pub record Shape : Type 0 where
-  pub rows : List Row
+  pub rows : List Seat
   pub output : ℕ
 
 abbrev pub shape_of : Pattern → Shape
-shape_of P = record { rows = P.rows; output = P.output }
+shape_of P = record { rows = seats P.rows; output = P.output }
 
-abbrev pub shaped : List Row → ℕ → Shape
+abbrev pub shaped : List Seat → ℕ → Shape
 shaped rs o = record { rows = rs; output = o }
 
 -- z has gone into w, which then has the test t
@@ -46,12 +45,12 @@ unfoldable pub axis_at : Shape → ℕ → Axis → Option Shape
 axis_at s z x = cond (inner s.rows z) (Some (shaped (rehung s.rows z (row s.rows z).up x) s.output)) None
 
 -- the highest number in use, of those up to k
-unfoldable pub highest : List Row → ℕ → ℕ
+unfoldable pub highest : List Seat → ℕ → ℕ
 highest rs zero = 0
 highest rs (suc k) = cond (row rs (suc k)).used (suc k) (highest rs k)
 
 -- the next number after all in use
-unfoldable pub next_number : List Row → ℕ
+unfoldable pub next_number : List Seat → ℕ
 next_number rs = highest rs 15 + 1
 
 -- z is reached over two new rows with the next two numbers, aside by the axis x
@@ -123,7 +122,7 @@ widens (Wide Following) = true
 widens (Wide Preceding) = true
 
 -- a row in use that expansion reaches over two new rows
-abbrev pub to_open : Row → Bool
+abbrev pub to_open : Seat → Bool
 to_open r = r.used && widens r.axis
 
 -- the rows of a path for it when it is expanded

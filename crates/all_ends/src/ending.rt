@@ -10,55 +10,22 @@ use pattern::{Forward, Pattern};
 use record::moves;
 use refusal::{Cause, Refusal};
 use rewrite::{Turn, next_turn};
-use std::alloc::Global;
 
 const MAX_ENDS: usize = 64;
 
 impl Ends {
-    // No end yet.
-    pub(crate) fn none(heap: Global) -> Ends
-        ensures number { result.number ≡ 0 }
-        ensures kept { result.kept.items ≡ [] }
-    {
-        Ends {
-            number: 0,
-            kept: Vec::new(heap),
-        }
-    }
-
-    // How many ends there are, dropped ones too.
-    pub fn number(&self) -> usize
-        ensures { result ≡ self.now.number }
-    {
-        let Ends { number, .. } = self;
-        *number
-    }
-
-    // The kept ends, in the order in which they were reached.
-    pub fn kept(&self) -> &[Forward]
-        ensures { result.now ≡ self.now.kept.items }
-    {
-        self.kept.as_slice()
-    }
-
     // One end more, kept or dropped.
     fn reach(&mut self, end: Option<Forward>) -> Result<(), Refusal>
         ensures { Reached self.old (option_map forward_shape end ∷ []) result self.new }
     {
         if self.number >= MAX_ENDS {
-            return Err(Refusal {
-                cause: Cause::TooManyEnds,
-                position: 0,
-            });
+            return Err(Cause::TooManyEnds.into());
         }
         self.number += 1;
-        match end {
-            None => Ok(()),
-            Some(forward) => {
-                self.kept.push(forward)?;
-                Ok(())
-            }
+        if let Some(forward) = end {
+            self.kept.push(forward)?;
         }
+        Ok(())
     }
 }
 

@@ -1,5 +1,6 @@
 // Whether a pattern has room to be expanded.
 ghost use Rattle.std.specs.Prelude.{◌≡◌, ◌≤◌};
+ghost use Rattle.pattern.specs.Rows.{seat, seats};
 ghost use Rattle.pattern.specs.Sizes.{how_many};
 ghost use Rattle.all_ends.specs.Ends.{shape_of, widens, to_open, fits};
 ghost use Rattle.all_ends.specs.Rewritten.{all_fit};
@@ -12,35 +13,21 @@ use record::{Axis, Reach};
 fn widens(axis: Axis) -> bool
     ensures { result ≡ widens axis }
 {
-    match axis {
-        Axis::Along(_) => false,
-        Axis::Against(_) => false,
-        Axis::Itself => false,
-        Axis::Wide(Reach::DescendantOrSelf) => false,
-        Axis::Wide(Reach::AncestorOrSelf) => false,
-        Axis::Wide(Reach::Following) => true,
-        Axis::Wide(Reach::Preceding) => true,
-    }
+    matches!(axis, Axis::Wide(Reach::Following | Reach::Preceding))
 }
 
-fn is_to_open(row: Row) -> bool
-    ensures { result ≡ to_open row }
+fn is_to_open(row: Option<Row>) -> bool
+    ensures { result ≡ to_open (seat row) }
 {
-    row.used & widens(row.axis)
+    row.is_some_and(|row| widens(row.axis))
 }
 
 // How many rows go by following or preceding.
-fn openings(rows: &[Row; 16]) -> u8
-    ensures value { result ≡ how_many to_open rows.now }
+fn openings(rows: &[Option<Row>; 16]) -> usize
+    ensures value { result ≡ how_many to_open (seats rows.now) }
     ensures bound { result ≤ 15 }
 {
-    let mut number = 0;
-    for i in 1..16_u8 {
-        if is_to_open(rows[i as usize]) {
-            number += 1;
-        }
-    }
-    number
+    rows.iter().skip(1).filter(|row| is_to_open(**row)).count()
 }
 
 // Whether the new rows still have numbers, and a path for the expanded pattern has at most 15 rows. That there are sixteen rows is part of
@@ -50,16 +37,11 @@ fn is_fit(pattern: Pattern) -> bool
 {
     let rows = pattern.rows();
     let more = 2 * openings(&rows);
-    (next_number(&rows) + more <= 16) & (pattern.path_rows() + more <= 15)
+    usize::from(next_number(&rows)) + more <= 16 && usize::from(pattern.path_rows()) + more <= 15
 }
 
 pub(crate) fn all_fit(patterns: &[Pattern]) -> bool
     ensures { result ≡ all_fit patterns.now }
 {
-    for pattern in patterns {
-        if !is_fit(*pattern) {
-            return false;
-        }
-    }
-    true
+    patterns.iter().all(|pattern| is_fit(*pattern))
 }

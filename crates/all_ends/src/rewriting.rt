@@ -16,10 +16,7 @@ pub fn rewrite(heap: Global, sources: &[Pattern]) -> Result<Ends, Refusal>
     ensures faithful { IfOk result (λ ends. Faithful sources.now ends.kept.items) }
 {
     if !all_fit(sources) {
-        return Err(Refusal {
-            cause: Cause::TooManyRows,
-            position: 0,
-        });
+        return Err(Cause::TooManyRows.into());
     }
     let mut ends = Ends::none(heap);
     for source in sources {

@@ -8,7 +8,7 @@ use Rattle.tally.proofs.Carrying.{yes_follows_the_number, count_follows_the_numb
 use Rattle.tally.proofs.Sums.{carries_bracket, carries_sum, carries_product}
 use Rattle.pattern.specs.Laws.{YesIsAWay, CountIsTheWays}
 use Rattle.pattern.specs.Questions.{label_at, pattern_of, test_gain, value_within, value_at, ways}
-use Rattle.pattern.specs.Rows.{row}
+use Rattle.pattern.specs.Rows.{seats, row}
 use Rattle.ways.specs.Ways.{upd, Weighted, link, is_way, sum_rows, gains, value, weighted, held}
 use Rattle.pattern.specs.declared.base.Pattern.{Pattern}
 use Rattle.ways.proofs.RowSums.{upd_carries}
@@ -30,7 +30,7 @@ module _ {T U : Type 0} {S : Semiring T} {R : Semiring U} {h : T → U} (c : Car
 
   -- the gain of a test, with the output held
   carries_held : (lab : ℕ → ℕ) (P : Pattern) (p r q : ℕ) →
-      h ((held S (pattern_of (test_gain S lab) P.rows) P.output p).gain r q) ≡ (held R (pattern_of (test_gain R lab) P.rows) P.output p).gain r q
+      h ((held S (pattern_of (test_gain S lab) (seats P.rows)) P.output p).gain r q) ≡ (held R (pattern_of (test_gain R lab) (seats P.rows)) P.output p).gain r q
   unfolding held weighted pattern_of test_gain
   carries_held lab P p r q =
       upd_carries h _ _ P.output _ _ r q (carries_bracket c _) (c.times _ _ ∙ ap₂ R.times (carries_bracket c (eqb p q)) (carries_bracket c _))
@@ -40,7 +40,7 @@ module _ {T U : Type 0} {S : Semiring T} {R : Semiring U} {h : T → U} (c : Car
   carries_value_at places P p =
       carries_value (depth_at places) (length places) _
       ∙ ap (value R (depth_at places) (length places)) (unfold held weighted pattern_of in
-      ap (λ g. record { rows = (pattern_of (test_gain R (label_at places)) P.rows).rows; up = λ r. (row P.rows r).up; axis = λ r. (row P.rows r).axis; gain = g })
+      ap (λ g. record { rows = (pattern_of (test_gain R (label_at places)) (seats P.rows)).rows; up = λ r. (row (seats P.rows) r).up; axis = λ r. (row (seats P.rows) r).axis; gain = g })
       (fun_ext (λ r. fun_ext (λ q. carries_held (label_at places) P p r q))))
 
 pub yes_is_a_way : YesIsAWay

@@ -10,7 +10,7 @@ use Rattle.tally.specs.Semirings.{Semiring, bracket, sum, product}
 use Rattle.tally.specs.Tallies.{naturals}
 use Rattle.pattern.specs.Laws.{PrefixesKeepTheValue, MorePlacesLoseNoWay}
 use Rattle.pattern.specs.Questions.{label_at, pattern_of, test_gain, value_within, value_at, ways}
-use Rattle.pattern.specs.Rows.{row}
+use Rattle.pattern.specs.Rows.{seats, row}
 use Rattle.pattern.specs.Tests.{passes}
 use Rattle.ways.specs.Ways.{upd, Weighted, all_rows, link, is_way, sum_rows, gains, value, weighted, held}
 use Rattle.pattern.specs.declared.base.Pattern.{Pattern}
@@ -69,13 +69,13 @@ front_label places more i h = ap (λ (x : Place). x.label) (get_or_append_left p
 
 module _ {T : Type 0} (S : Semiring T) where
   held_gain : (places more : List Place) (P : Pattern) (p r q : ℕ) → q < length places →
-      (held S (pattern_of (test_gain S (label_at (places ++ more))) P.rows) P.output p).gain r q ≡ (held S (pattern_of (test_gain S (label_at places)) P.rows) P.output p).gain r q
+      (held S (pattern_of (test_gain S (label_at (places ++ more))) (seats P.rows)) P.output p).gain r q ≡ (held S (pattern_of (test_gain S (label_at places)) (seats P.rows)) P.output p).gain r q
   unfolding held weighted pattern_of test_gain
   held_gain places more P p r q h =
       upd_carries (λ (x : T). x) _ _ P.output _ _ r q (same_test r) (ap (S.times _) (same_test P.output))
     where
-      same_test : (r : ℕ) → bracket S (passes (label_at (places ++ more)) (row P.rows r).test q) ≡ bracket S (passes (label_at places) (row P.rows r).test q)
-      same_test r = ap (bracket S) (passes_same _ _ (row P.rows r).test q (front_label places more q h))
+      same_test : (r : ℕ) → bracket S (passes (label_at (places ++ more)) (row (seats P.rows) r).test q) ≡ bracket S (passes (label_at places) (row (seats P.rows) r).test q)
+      same_test r = ap (bracket S) (passes_same _ _ (row (seats P.rows) r).test q (front_label places more q h))
 
 pub prefixes_keep_the_value : {T : Type 0} (S : Semiring T) → PrefixesKeepTheValue S
 unfolding value_within value_at

@@ -5,12 +5,12 @@ use Rattle.record.specs.declared.axis.Axis.TheVariants.{Itself}
 use Rattle.tally.specs.Semirings.{Semiring}
 use Rattle.ways.specs.Merging.{Under, merged}
 use Rattle.pattern.specs.Questions.{pattern_of, test_gain}
-use Rattle.pattern.specs.Rows.{row, rooted, Merged}
+use Rattle.pattern.specs.Rows.{Seat, row, rooted, Merged}
 use Rattle.pattern.specs.Tests.{joined}
 use Rattle.ways.specs.Ways.{upd, Weighted, value, weighted}
-use Rattle.pattern.specs.declared.row.Row.{Row}
+use Rattle.ways.proofs.Alike.{value_alike, weighted_alike}
 use Rattle.ways.proofs.Merges.{beside, merge_kept, tree_under, weighted_merged, merged_nought}
-use Rattle.pattern.proofs.MergedRows.{merged_array, tests_join, tests_apart}
+use Rattle.pattern.proofs.MergedRows.{merged_alike, tests_join, tests_apart}
 use Rattle.ways.proofs.RowLists.{times_left_comm}
 use Rattle.ways.proofs.RowSums.{upd_same, upd_other}
 use Rattle.pattern.proofs.Trees.{in_rows, tree_of}
@@ -30,7 +30,7 @@ weighted_apart S g o v W Z k p e =
       ]
     ]
 
-module _ {T : Type 0} (S : Semiring T) (D : ℕ → ℕ) (n : ℕ) (some_place : 0 < n) (lab : ℕ → ℕ) (rs : List Row) (len : length rs ≡ 16) (ok : rooted rs ≡ true)
+module _ {T : Type 0} (S : Semiring T) (D : ℕ → ℕ) (n : ℕ) (some_place : 0 < n) (lab : ℕ → ℕ) (rs : List Seat) (len : length rs ≡ 16) (ok : rooted rs ≡ true)
     (z : ℕ) (low : 1 ≤ z) (high : z < 16) (live : (row rs z).used ≡ true) where
   abbrev P : Weighted T
   P = pattern_of (test_gain S lab) rs
@@ -44,12 +44,12 @@ module _ {T : Type 0} (S : Semiring T) (D : ℕ → ℕ) (n : ℕ) (some_place :
   under_weighted o v = record { hung = record { apart = under.hung.apart; no_top = under.hung.no_top; ups = under.hung.ups }; within = under.within; up_Z = under.up_Z; W_Z = under.W_Z }
 
   -- merging in the array is merging of the pattern, and the factor goes with the row
-  pub merged_kept : (rs' : List Row) → Merged rs z rs' → (o : ℕ) (v : ℕ → T) →
+  pub merged_kept : (rs' : List Seat) → Merged rs z rs' → (o : ℕ) (v : ℕ → T) →
       value S D n (merged S (weighted S P o v) (row rs z).up z) ≡ value S D n (weighted S (pattern_of (test_gain S lab) rs') (cond (eqb o z) (row rs z).up o) v)
   unfolding test_gain
   merged_kept rs' m o v =
       weighted_merged S D n some_place P (row rs z).up z (beside P _ z under) o v
-      ∙ ap (λ Q. value S D n (weighted S Q (cond (eqb o z) (row rs z).up o) v)) (sym (merged_array S (test_gain S lab) (tests_join S lab) rs rs' z (row rs z).up m))
+      ∙ sym (value_alike S D n some_place _ _ (weighted_alike S (pattern_of (test_gain S lab) rs') (merged S P (row rs z).up z) (cond (eqb o z) (row rs z).up o) v (merged_alike S (test_gain S lab) (tests_join S lab) rs rs' z (row rs z).up low m)))
 
   -- where the two tests join to nothing it is worth nothing
   pub merged_dropped : joined (row rs (row rs z).up).test (row rs z).test ≡ None → (o : ℕ) (v : ℕ → T) → value S D n (merged S (weighted S P o v) (row rs z).up z) ≡ S.nought

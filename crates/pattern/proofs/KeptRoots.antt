@@ -10,9 +10,8 @@ use Rattle.ways.specs.Ways.{upd}
 use Rattle.ways.proofs.RowLists.{all_decides}
 use Rattle.ways.proofs.RowSums.{upd_same, upd_other}
 use Rattle.pattern.specs.Roots.{is_root, named, root_alone}
-use Rattle.pattern.specs.Rows.{row, fifteen, rooted, hung, second, rehung, spread, MergedInto, Merged, MovedTo}
+use Rattle.pattern.specs.Rows.{Seat, row, fifteen, rooted, hung, second, rehung, spread, MergedInto, Merged, MovedTo}
 use Rattle.pattern.specs.Tests.{joined}
-use Rattle.pattern.specs.declared.row.Row.{Row}
 use Rattle.pattern.specs.declared.row.Test.{Test}
 use Rattle.pattern.specs.declared.row.Test.TheVariants.{Any, Star, Label, Root}
 use Rattle.pattern.proofs.MergedRows.{up_apart}
@@ -21,11 +20,11 @@ use Rattle.pattern.proofs.Spreads.{used_at, test_at}
 use Rattle.pattern.proofs.Trees.{in_fifteen, fifteen_in}
 
 -- what it says of each row
-pub root_first : (rs : List Row) → root_alone rs ≡ true → is_root (row rs 0).test ≡ true
+pub root_first : (rs : List Seat) → root_alone rs ≡ true → is_root (row rs 0).test ≡ true
 unfolding root_alone
 root_first rs e = (and_parts _ _ e).0
 
-pub root_others : (rs : List Row) → root_alone rs ≡ true → (i : ℕ) → 1 ≤ i → i < 16 → (row rs i).used ≡ true → is_root (row rs i).test ≡ false
+pub root_others : (rs : List Seat) → root_alone rs ≡ true → (i : ℕ) → 1 ≤ i → i < 16 → (row rs i).used ≡ true → is_root (row rs i).test ≡ false
 unfolding root_alone
 root_others rs e i low high used =
     elim (or_cases _ _ ((all_decides fifteen (λ i. named (row rs i))).0 (and_parts _ _ e).1 i (in_fifteen i low high))) [
@@ -33,7 +32,7 @@ root_others rs e i low high used =
       | inr n ↦ not-true _ n
     ]
 
-pub root_from : (rs : List Row) → is_root (row rs 0).test ≡ true → ((i : ℕ) → 1 ≤ i → i < 16 → (row rs i).used ≡ true → is_root (row rs i).test ≡ false) → root_alone rs ≡ true
+pub root_from : (rs : List Seat) → is_root (row rs 0).test ≡ true → ((i : ℕ) → 1 ≤ i → i < 16 → (row rs i).used ≡ true → is_root (row rs i).test ≡ false) → root_alone rs ≡ true
 unfolding root_alone
 root_from rs a b =
     and_from _ _ a ((all_decides fifteen (λ i. named (row rs i))).1 (λ i j. let (low, high) = fifteen_in i j in elim (cases_Bool (row rs i).used) [
@@ -42,11 +41,11 @@ root_from rs a b =
     ]))
 
 -- rows that have the tests that they had
-pub same_root : (rs rs' : List Row) → ((i : ℕ) → (row rs' i).test ≡ (row rs i).test) → ((i : ℕ) → (row rs' i).used ≡ (row rs i).used) → root_alone rs ≡ true → root_alone rs' ≡ true
+pub same_root : (rs rs' : List Seat) → ((i : ℕ) → (row rs' i).test ≡ (row rs i).test) → ((i : ℕ) → (row rs' i).used ≡ (row rs i).used) → root_alone rs ≡ true → root_alone rs' ≡ true
 same_root rs rs' t u e =
     root_from rs' (ap is_root (t 0) ∙ root_first rs e) (λ i low high used. ap is_root (t i) ∙ root_others rs e i low high (sym (u i) ∙ used))
 
-pub rehung_root : (rs : List Row) (z w : ℕ) (x : Axis) → z < length rs → root_alone rs ≡ true → root_alone (rehung rs z w x) ≡ true
+pub rehung_root : (rs : List Seat) (z w : ℕ) (x : Axis) → z < length rs → root_alone rs ≡ true → root_alone (rehung rs z w x) ≡ true
 rehung_root rs z w x l e = same_root rs (rehung rs z w x) (hung_test rs z w x l) (hung_used rs z w x l) e
 
 -- two tests join to the root exactly if one of them is it
@@ -72,17 +71,17 @@ joined_root Root Root = refl
 join_root : (a b t : Test) → joined a b ≡ Some t → is_root t ≡ (is_root a || is_root b)
 join_root a b t e = subst (RootOf (is_root a || is_root b)) e (joined_root a b)
 
-pub merged_root : (rs rs' : List Row) (z w : ℕ) → MergedInto rs z w rs' → 1 ≤ z → z < 16 → (row rs z).used ≡ true → w ≢ z → root_alone rs ≡ true → root_alone rs' ≡ true
+pub merged_root : (rs rs' : List Seat) (z w : ℕ) → MergedInto rs z w rs' → 1 ≤ z → z < 16 → (row rs z).used ≡ true → w ≢ z → root_alone rs ≡ true → root_alone rs' ≡ true
 merged_root rs rs' z w (t, e, h) low high used n r = root_from rs' first others
   where
-    test_of : (i : ℕ) → (row rs' i).test ≡ cond (eqb i w) t (row rs i).test
-    test_of i = ap (λ x. x.test) (h i)
+    test_of : (i : ℕ) → i ≢ z → (row rs' i).test ≡ cond (eqb i w) t (row rs i).test
+    test_of i k = ap (λ x. x.test) (h i) ∙ ap (λ b. cond b Any (cond (eqb i w) t (row rs i).test)) (ne_eqb i z k)
 
     of_z : is_root (row rs z).test ≡ false
     of_z = root_others rs r z low high used
 
     first : is_root (row rs' 0).test ≡ true
-    first = ap is_root (test_of 0) ∙ elim (cases_eq 0 w) [
+    first = ap is_root (test_of 0 (omega arith)) ∙ elim (cases_eq 0 w) [
       | inl k ↦ ap (λ b. is_root (cond b t (row rs 0).test)) (eq-eqb 0 w k) ∙ join_root (row rs w).test (row rs z).test t e ∙ or_left (is_root (row rs w).test) (is_root (row rs z).test) (subst (λ i. is_root (row rs i).test ≡ true) k (root_first rs r))
       | inr k ↦ ap (λ b. is_root (cond b t (row rs 0).test)) (ne_eqb 0 w k) ∙ root_first rs r
     ]
@@ -93,20 +92,20 @@ merged_root rs rs' z w (t, e, h) low high used n r = root_from rs' first others
       | inr k ↦
           let v : (row rs i).used ≡ true = sym (ap (λ x. x.used) (h i) ∙ ap (λ b. cond b false (row rs i).used) (ne_eqb i z k)) ∙ u in
           let o = root_others rs r i a b v in
-          ap is_root (test_of i) ∙ elim (cases_eq i w) [
+          ap is_root (test_of i k) ∙ elim (cases_eq i w) [
             | inl q ↦ ap (λ b. is_root (cond b t (row rs i).test)) (eq-eqb i w q) ∙ join_root (row rs w).test (row rs z).test t e ∙ or_from (is_root (row rs w).test) (is_root (row rs z).test) (subst (λ j. is_root (row rs j).test ≡ false) q o) of_z
             | inr q ↦ ap (λ b. is_root (cond b t (row rs i).test)) (ne_eqb i w q) ∙ o
           ]
     ]
 
-module _ (rs : List Row) (len : length rs ≡ 16) (ok : rooted rs ≡ true) (z : ℕ) (low : 1 ≤ z) (high : z < 16) (used : (row rs z).used ≡ true) (r : root_alone rs ≡ true) where
-  pub merged_up_root : (rs' : List Row) → Merged rs z rs' → root_alone rs' ≡ true
+module _ (rs : List Seat) (len : length rs ≡ 16) (ok : rooted rs ≡ true) (z : ℕ) (low : 1 ≤ z) (high : z < 16) (used : (row rs z).used ≡ true) (r : root_alone rs ≡ true) where
+  pub merged_up_root : (rs' : List Seat) → Merged rs z rs' → root_alone rs' ≡ true
   merged_up_root rs' m = merged_root rs rs' z (row rs z).up m low high used (up_apart rs (omega arith) ok z low high used) r
 
-  pub moved_root : 1 ≤ (row rs z).up → (m : Move) (rs' : List Row) → MovedTo rs z m rs' → root_alone rs' ≡ true
+  pub moved_root : 1 ≤ (row rs z).up → (m : Move) (rs' : List Seat) → MovedTo rs z m rs' → root_alone rs' ≡ true
   moved_root below Up rs' e = subst (λ x. root_alone x ≡ true) (sym e) (rehung_root rs z (second rs z) (row rs z).axis (omega arith) r)
   moved_root below (Between a b) rs' e =
-      let one : List Row = rehung rs z (second rs z) (Along a) in
+      let one : List Seat = rehung rs z (second rs z) (Along a) in
       let l : length one ≡ 16 = length-set rs z (hung (row rs z) (second rs z) (Along a)) ∙ len in
       let y = y_high rs len ok z low high used below in
       subst (λ x. root_alone x ≡ true) (sym e) (rehung_root one (row rs z).up z (Along b) (omega arith) (rehung_root rs z (second rs z) (Along a) (omega arith) r))

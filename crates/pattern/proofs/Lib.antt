@@ -1,6 +1,5 @@
 pub mod Carried
 pub mod Computed
-pub mod Counting
 pub mod Fifteen
 pub mod Growth
 pub mod Hanging
@@ -8,8 +7,12 @@ pub mod Joined
 pub mod Kept
 pub mod KeptRoots
 pub mod KeptWays
+pub mod Known
+pub mod Lookups
 pub mod MergedRows
 pub mod Moved
 pub mod Proved
+pub mod SeatLists
+pub mod Spread
 pub mod Spreads
 pub mod Trees

@@ -1,21 +1,23 @@
 -- Merging in the array is merging of the pattern.
-use Rattle.std.proofs.Common.{◌≡◌, ℕ, ◌<◌, ◌≤◌, true, false, cond, eqb, ◌≢◌, List, length, set, Some, None, sym, refl, ap, ◌∙◌, subst, ap₂, inl, inr, arith}
+use Rattle.std.proofs.Common.{◌≡◌, ℕ, ◌<◌, ◌≤◌, true, false, cond, eqb, ◌≢◌, List, length, Some, None, sym, refl, ap, ◌∙◌, subst, ap₂, inl, inr, arith}
 use mathlib.Core.Path.{fun_ext}
-use Rattle.std.proofs.lemmas.List.{get_or-set_same, get_or-set_other, length-set}
-use Rattle.std.proofs.lemmas.Bool.{cases_eq, cases_Bool, eq-eqb, ne_eqb, or_cases, or_left, or_right}
+use Rattle.std.proofs.lemmas.Bool.{cases_eq, cases_Bool, eq-eqb, ne_eqb, both_ways, or_cases, or_left, or_right}
+use Rattle.record.specs.declared.axis.Step.TheVariants.{Child}
 use Rattle.record.specs.declared.axis.Axis.{Axis}
+use Rattle.record.specs.declared.axis.Axis.TheVariants.{Along}
 use Rattle.tally.specs.Semirings.{Semiring, bracket}
-use Rattle.ways.specs.Ways.{upd, Weighted, Tree}
+use Rattle.ways.specs.Ways.{upd, In, Weighted}
 use Rattle.ways.specs.Merging.{merged}
 use Rattle.tally.proofs.Sums.{bracket_and, bracket_off}
+use Rattle.ways.proofs.Alike.{Alike, tree_alike}
 use Rattle.ways.proofs.Merges.{tree_under, tree_merged}
-use Rattle.pattern.specs.declared.row.Row.{Row}
 use Rattle.pattern.specs.declared.row.Test.{Test}
+use Rattle.pattern.specs.declared.row.Test.TheVariants.{Any}
 use Rattle.pattern.specs.Tests.{joined, passes, JoinTold}
-use Rattle.pattern.specs.Rows.{top, row, fifteen, rooted, live, redirected, merged_row, MergedInto, Merged}
-use Rattle.pattern.specs.Questions.{pattern_of}
+use Rattle.pattern.specs.Rows.{Seat, row, fifteen, has_root, rooted, live, MergedInto, Merged}
+use Rattle.pattern.specs.Questions.{sift, pattern_of}
 use Rattle.pattern.proofs.Joined.{join_told}
-use Rattle.pattern.proofs.Trees.{sift_drop, sift_cong, fifteen_apart, in_rows, rows_in, height, tree_of, rooted_from}
+use Rattle.pattern.proofs.Trees.{sift_in, sift_drop, sift_cong, fifteen_apart, in_rows, rows_in, height, tree_of, rooted_from}
 
 -- the gain of a joined test is the product of both
 abbrev pub Joins : {T : Type 0} → Semiring T → (Test → ℕ → T) → Type 0
@@ -26,19 +28,45 @@ pub pattern_cong : {T : Type 0} (rows rows' : List ℕ) (up up' : ℕ → ℕ) (
 pattern_cong rows rows' up up' axis axis' gain gain' a b c d =
     ap₂ (λ r u. record { rows = r; up = u; axis = axis; gain = gain }) a b ∙ ap₂ (λ x g. record { rows = rows'; up = up'; axis = x; gain = g }) c d
 
+-- z has gone into w, and where it stood it still says under which row it hung, by which axis and with which test
+abbrev pub LeftInto : List Seat → ℕ → ℕ → List Seat → Type 0
+LeftInto rs z w rs' =
+    (t : Test) × (joined (row rs w).test (row rs z).test ≡ Some t)
+    × ((i : ℕ) → row rs' i ≡ record { used = cond (eqb i z) false (row rs i).used; up = cond (eqb (row rs i).up z) w (row rs i).up; axis = (row rs i).axis; test = cond (eqb i w) t (row rs i).test })
+
 module _ {T : Type 0} (S : Semiring T) (gain : Test → ℕ → T) (joins : Joins S gain) where
-  pub merged_array : (rs rs' : List Row) (z w : ℕ) → MergedInto rs z w rs' → pattern_of gain rs' ≡ merged S (pattern_of gain rs) w z
+  gained : (rs : List Seat) (z w : ℕ) (t : Test) → joined (row rs w).test (row rs z).test ≡ Some t →
+      (r : ℕ) → gain (cond (eqb r w) t (row rs r).test) ≡ cond (eqb r w) (λ p. S.times (gain (row rs w).test p) (gain (row rs z).test p)) (gain (row rs r).test)
+  gained rs z w t e r = elim (cases_Bool (eqb r w)) [
+    | inl k ↦ rw k (fun_ext (λ p. joins _ _ t e p))
+    | inr k ↦ rw k refl
+  ]
+
+  pub merged_array : (rs rs' : List Seat) (z w : ℕ) → LeftInto rs z w rs' → pattern_of gain rs' ≡ merged S (pattern_of gain rs) w z
   unfolding pattern_of merged upd
   merged_array rs rs' z w (t, e, h) = pattern_cong _ _ _ _ _ _ _ _
       (sift_cong fifteen _ (λ r. cond (eqb r z) false (row rs r).used) (λ r _. ap (λ x. x.used) (h r)) ∙ sift_drop fifteen (λ r. (row rs r).used) z fifteen_apart)
       (fun_ext (λ r. ap (λ x. x.up) (h r)))
       (fun_ext (λ r. ap (λ x. x.axis) (h r)))
-      (fun_ext (λ r. ap (λ x. gain x.test) (h r) ∙ gained r))
+      (fun_ext (λ r. ap (λ x. gain x.test) (h r) ∙ gained rs z w t e r))
+
+  -- where it says nothing any more, that is so of the rows in use
+  pub merged_alike : (rs rs' : List Seat) (z w : ℕ) → 1 ≤ z → MergedInto rs z w rs' → Alike (pattern_of gain rs') (merged S (pattern_of gain rs) w z)
+  unfolding pattern_of merged upd
+  merged_alike rs rs' z w low (t, e, h) = record {
+    rows = sift_cong fifteen _ (λ r. cond (eqb r z) false (row rs r).used) (λ r _. ap (λ x. x.used) (h r)) ∙ sift_drop fifteen (λ r. (row rs r).used) z fifteen_apart;
+    up = λ r i. ap (λ x. x.up) (h r) ∙ ap (λ b. cond b 0 (cond (eqb (row rs r).up z) w (row rs r).up)) (other r (in_use r i));
+    axis = λ r i. ap (λ x. x.axis) (h r) ∙ ap (λ b. cond b (Along Child) (row rs r).axis) (other r (in_use r i));
+    gain = λ r i. ap (λ x. gain x.test) (h r) ∙ ap (λ b. gain (cond b Any (cond (eqb r w) t (row rs r).test))) (elim i [ inl k ↦ ne_eqb r z (omega arith) | inr j ↦ other r (in_use r j) ]) ∙ gained rs z w t e r;
+  }
     where
-      gained : (r : ℕ) → gain (cond (eqb r w) t (row rs r).test) ≡ cond (eqb r w) (λ p. S.times (gain (row rs w).test p) (gain (row rs z).test p)) (gain (row rs r).test)
-      gained r = elim (cases_Bool (eqb r w)) [
-        | inl k ↦ rw k (fun_ext (λ p. joins _ _ t e p))
-        | inr k ↦ rw k refl
+      in_use : (r : ℕ) → In r (sift fifteen (λ r. (row rs' r).used)) → (row rs' r).used ≡ true
+      in_use r i = (sift_in fifteen (λ r. (row rs' r).used) r i).1
+
+      other : (r : ℕ) → (row rs' r).used ≡ true → eqb r z ≡ false
+      other r u = elim (cases_Bool (eqb r z)) [
+        | inl k ↦ absurd (both_ways _ (ap (λ x. x.used) (h r) ∙ ap (λ b. cond b false (row rs r).used) k) u)
+        | inr k ↦ k
       ]
 
 -- the tree is the same in every semiring; the least is of one element
@@ -61,7 +89,7 @@ least = record {
 abbrev pub none : Test → ℕ → Unit {0}
 none t p = tt
 
-module _ (rs : List Row) (len : length rs ≤ 16) (ok : rooted rs ≡ true) (z : ℕ) (low : 1 ≤ z) (high : z < 16) (live_z : (row rs z).used ≡ true) where
+module _ (rs : List Seat) (len : length rs ≤ 16) (ok : rooted rs ≡ true) (z : ℕ) (low : 1 ≤ z) (high : z < 16) (live_z : (row rs z).used ≡ true) where
   pub up_within : (row rs z).up < 16
   unfolding pattern_of
   up_within = elim ((tree_of none rs len ok).ups z (in_rows none rs z low high live_z)) [
@@ -73,11 +101,11 @@ module _ (rs : List Row) (len : length rs ≤ 16) (ok : rooted rs ≡ true) (z :
   unfolding pattern_of
   up_apart = (tree_under (pattern_of none rs) _ (tree_of none rs len ok) z (in_rows none rs z low high live_z)).W_Z
 
-  pub merged_rooted : (rs' : List Row) → Merged rs z rs' → rooted rs' ≡ true
+  pub merged_rooted : (rs' : List Seat) → Merged rs z rs' → rooted rs' ≡ true
   merged_rooted rs' m =
       let tree = tree_of none rs len ok in
       rooted_from none rs' (height (λ i. (row rs i).up) 16)
-      (subst (λ P. Tree P (height (λ i. (row rs i).up) 16)) (sym (merged_array least none (λ a b t e p. refl) rs rs' z (row rs z).up m))
+      (tree_alike (pattern_of none rs') (merged least (pattern_of none rs) (row rs z).up z) (height (λ i. (row rs i).up) 16) (merged_alike least none (λ a b t e p. refl) rs rs' z (row rs z).up low m)
       (tree_merged least (pattern_of none rs) _ tree (row rs z).up z (unfold pattern_of in tree_under (pattern_of none rs) _ tree z (in_rows none rs z low high live_z))))
 
   pub up_live : live rs (row rs z).up ≡ true
@@ -88,7 +116,7 @@ module _ (rs : List Row) (len : length rs ≤ 16) (ok : rooted rs ≡ true) (z :
   ]
 
 -- the output is in use again
-pub into_live : (rs rs' : List Row) (z w : ℕ) → MergedInto rs z w rs' → w ≢ z → live rs w ≡ true → (o : ℕ) → live rs o ≡ true → live rs' (cond (eqb o z) w o) ≡ true
+pub into_live : (rs rs' : List Seat) (z w : ℕ) → MergedInto rs z w rs' → w ≢ z → live rs w ≡ true → (o : ℕ) → live rs o ≡ true → live rs' (cond (eqb o z) w o) ≡ true
 unfolding live
 into_live rs rs' z w (t, e, h) n lw o lo = elim (cases_eq o z) [
   | inl k ↦ subst (λ b. live rs' (cond b w o) ≡ true) (sym (eq-eqb o z k)) (stays w n lw)
@@ -101,32 +129,9 @@ into_live rs rs' z w (t, e, h) n lw o lo = elim (cases_eq o z) [
       | inr q ↦ or_right (eqb i 0) _ (ap (λ x. x.used) (h i) ∙ ap (λ x. cond x false (row rs i).used) (ne_eqb i z k) ∙ q)
     ]
 
--- the two writes after the rows are hung anew
-abbrev pub retested : Row → Test → Row
-retested r t = record { used = r.used; up = r.up; axis = r.axis; test = t }
-
-abbrev pub dropped : Row → Row
-dropped r = record { used = false; up = r.up; axis = r.axis; test = r.test }
-
-pub made : (rs out : List Row) (z w : ℕ) (t : Test) → z < length out → w < length out → w ≢ z → ((i : ℕ) → row out i ≡ redirected z w (row rs i)) →
-    (i : ℕ) → row (set (set out w (retested (row out w) t)) z (dropped (row (set out w (retested (row out w) t)) z))) i ≡ merged_row rs z w t i
-made rs out z w t hz hw n h i =
-    let a : List Row = set out w (retested (row out w) t) in
-    let l : length a ≡ length out = length-set out w (retested (row out w) t) in
-    elim (cases_eq i z) [
-      | inl e ↦ subst (λ x. row (set a z (dropped (row a z))) x ≡ merged_row rs z w t x) (sym e)
-          (get_or-set_same a z (dropped (row a z)) top (omega arith)
-          ∙ ap {B = Row} dropped (get_or-set_other out w z (retested (row out w) t) top (λ k. n (sym k)) ∙ h z)
-          ∙ (let u : eqb z z ≡ true = eq-eqb z z refl in let v : eqb z w ≡ false = ne_eqb z w (λ k. n (sym k)) in rw (u, v) refl))
-      | inr k ↦ get_or-set_other a z i (dropped (row a z)) top k ∙ elim (cases_eq i w) [
-        | inl e ↦ subst (λ x. row a x ≡ merged_row rs z w t x) (sym e)
-            (get_or-set_same out w (retested (row out w) t) top hw
-            ∙ ap {B = Row} (λ r. retested r t) (h w)
-            ∙ (let u : eqb w w ≡ true = eq-eqb w w refl in let v : eqb w z ≡ false = ne_eqb w z n in rw (u, v) refl))
-        | inr d ↦ get_or-set_other out w i (retested (row out w) t) top d ∙ h i
-            ∙ (let u : eqb i w ≡ false = ne_eqb i w d in let v : eqb i z ≡ false = ne_eqb i z k in rw (u, v) refl)
-      ]
-    ]
+-- row 0 stays
+pub merged_top : (rs rs' : List Seat) (z w : ℕ) → MergedInto rs z w rs' → 1 ≤ z → has_root rs ≡ true → has_root rs' ≡ true
+merged_top rs rs' z w (t, e, h) low u = ap (λ x. x.used) (h 0) ∙ ap (λ b. cond b false (row rs 0).used) (ne_eqb 0 z (omega arith)) ∙ u
 
 -- the gains of tests
 pub tests_join : {T : Type 0} (S : Semiring T) (lab : ℕ → ℕ) → Joins S (λ t p. bracket S (passes lab t p))

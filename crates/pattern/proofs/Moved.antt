@@ -3,6 +3,7 @@ use Rattle.std.proofs.Common.{◌≡◌, ℕ, ◌+◌, ◌<◌, ◌≤◌, true,
 use mathlib.Core.Path.{fun_ext}
 use Rattle.std.proofs.lemmas.List.{get_or-set_same, get_or-set_other, get_or_past, length-set}
 use Rattle.std.proofs.lemmas.Bool.{cases_eq, cases_lt, eqb-false, ltb-true, and_parts, not-true, both_ways}
+use Rattle.record.specs.declared.axis.Step.{Step}
 use Rattle.record.specs.declared.axis.Axis.{Axis}
 use Rattle.record.specs.declared.axis.Axis.TheVariants.{Along}
 use Rattle.record.specs.declared.rules.Move.{Move}
@@ -11,15 +12,15 @@ use Rattle.tally.specs.Semirings.{Semiring}
 use Rattle.ways.specs.Merging.{merged, axed}
 use Rattle.ways.specs.Rewriting.{moved}
 use Rattle.ways.specs.Ways.{upd, In, Weighted, Tree}
+use Rattle.ways.proofs.Alike.{Alike, same_alike, tree_alike}
 use Rattle.ways.proofs.Merges.{tree_axed}
 use Rattle.ways.proofs.RowSums.{upd_same, upd_other}
 use Rattle.ways.proofs.Whole.{ranked, tree_kept}
 use Rattle.pattern.specs.Questions.{sift, pattern_of}
-use Rattle.pattern.specs.Rows.{top, row, hung, rehung, second, inner, deep, free_two, room, live, fifteen, rooted, MovedTo, moved_output}
+use Rattle.pattern.specs.Rows.{Seat, top, row, hung, rehung, has_root, second, inner, deep, free_two, room, live, fifteen, rooted, MovedTo, moved_output}
 use Rattle.pattern.specs.Tests.{joined}
-use Rattle.pattern.specs.declared.row.Row.{Row}
 use Rattle.pattern.specs.declared.row.Test.{Test}
-use Rattle.pattern.proofs.MergedRows.{Joins, pattern_cong, merged_array, least, none, up_within, up_live, into_live}
+use Rattle.pattern.proofs.MergedRows.{Joins, pattern_cong, LeftInto, merged_array, merged_alike, merged_top, least, none, up_within, up_live, into_live}
 use Rattle.pattern.proofs.Trees.{sift_cong, in_rows, rows_in, height, tree_of, rooted_from}
 
 -- Z under W by the axis x
@@ -27,8 +28,8 @@ unfoldable pub hooked : {T : Type 0} → Weighted T → ℕ → ℕ → Axis →
 hooked P Z W x = record { rows = P.rows; up = upd P.up Z W; axis = upd P.axis Z x; gain = P.gain }
 
 -- one row hung elsewhere
-module _ (rs : List Row) (z w : ℕ) (x : Axis) (l : z < length rs) where
-  by_row : (Q : ℕ → Row → Type 0) → Q z (hung (row rs z) w x) → ((i : ℕ) → i ≢ z → Q i (row rs i)) → (i : ℕ) → Q i (row (rehung rs z w x) i)
+module _ (rs : List Seat) (z w : ℕ) (x : Axis) (l : z < length rs) where
+  by_row : (Q : ℕ → Seat → Type 0) → Q z (hung (row rs z) w x) → ((i : ℕ) → i ≢ z → Q i (row rs i)) → (i : ℕ) → Q i (row (rehung rs z w x) i)
   by_row Q a b i = elim (cases_eq i z) [
     | inl e ↦ subst (λ j. Q j (row (rehung rs z w x) j)) (sym e) (subst (Q z) (sym (get_or-set_same rs z (hung (row rs z) w x) top l)) a)
     | inr k ↦ subst (Q i) (sym (get_or-set_other rs z i (hung (row rs z) w x) top k)) (b i k)
@@ -63,8 +64,14 @@ upd_id f z v e =
       | inr k ↦ upd_other f z v i k
     ])
 
+-- row z has been moved by one move of the table; after a join it still says what it said
+abbrev pub LeftTo : List Seat → ℕ → Move → List Seat → Type 0
+LeftTo rs z Up rs' = rs' ≡ rehung rs z (second rs z) (row rs z).axis
+LeftTo rs z (Between a b) rs' = rs' ≡ rehung (rehung rs z (second rs z) (Along a)) (row rs z).up z (Along b)
+LeftTo rs z (Join a) rs' = LeftInto (rehung rs (row rs z).up (second rs z) (Along a)) z (second rs z) rs'
+
 -- what a deep row is
-pub inner_parts : (rs : List Row) (z : ℕ) → length rs ≡ 16 → inner rs z ≡ true → (1 ≤ z) × (z < 16) × ((row rs z).used ≡ true)
+pub inner_parts : (rs : List Seat) (z : ℕ) → length rs ≡ 16 → inner rs z ≡ true → (1 ≤ z) × (z < 16) × ((row rs z).used ≡ true)
 unfolding inner
 inner_parts rs z len e =
     let (a, b) = and_parts _ _ e in
@@ -72,12 +79,12 @@ inner_parts rs z len e =
       omega arith,
       elim (cases_lt z 16) [
         | inl l ↦ l
-        | inr l ↦ absurd (both_ways _ (ap (λ (r : Row). r.used) (get_or_past rs z top (omega arith))) b)
+        | inr l ↦ absurd (both_ways _ (ap (λ (r : Seat). r.used) (get_or_past rs z top (omega arith))) b)
       ],
       b,
     )
 
-pub deep_parts : (rs : List Row) (z : ℕ) → length rs ≡ 16 → deep rs z ≡ true → (1 ≤ z) × (z < 16) × ((row rs z).used ≡ true) × (1 ≤ (row rs z).up)
+pub deep_parts : (rs : List Seat) (z : ℕ) → length rs ≡ 16 → deep rs z ≡ true → (1 ≤ z) × (z < 16) × ((row rs z).used ≡ true) × (1 ≤ (row rs z).up)
 unfolding deep
 deep_parts rs z len e =
     let (a, b) = and_parts _ _ e in
@@ -85,7 +92,7 @@ deep_parts rs z len e =
     let n : (row rs z).up ≢ 0 = eqb-false _ _ (not-true _ b) in
     (p, q, r, omega arith)
 
-module _ (rs : List Row) (len : length rs ≡ 16) (ok : rooted rs ≡ true) (z : ℕ) (low : 1 ≤ z) (high : z < 16) (used : (row rs z).used ≡ true) (below : 1 ≤ (row rs z).up) where
+module _ (rs : List Seat) (len : length rs ≡ 16) (ok : rooted rs ≡ true) (z : ℕ) (low : 1 ≤ z) (high : z < 16) (used : (row rs z).used ≡ true) (below : 1 ≤ (row rs z).up) where
   abbrev y : ℕ
   y = (row rs z).up
 
@@ -117,7 +124,14 @@ module _ (rs : List Row) (len : length rs ≡ 16) (ok : rooted rs ≡ true) (z :
       let c : height (λ i. (row rs i).up) 16 w ≡ height (λ i. (row rs i).up) 16 z = ap (height (λ i. (row rs i).up) 16) e in
       absurd (omega arith)
 
-  pub moved_array : {T : Type 0} (S : Semiring T) (gain : Test → ℕ → T) → Joins S gain → (m : Move) (rs' : List Row) → MovedTo rs z m rs' → pattern_of gain rs' ≡ moved S (pattern_of gain rs) w y z m
+  first_hung : {T : Type 0} (S : Semiring T) (gain : Test → ℕ → T) (a : Step) → pattern_of gain (rehung rs y w (Along a)) ≡ axed (pattern_of gain rs) y (Along a)
+  unfolding axed hooked pattern_of
+  first_hung S gain a =
+      let h = y_high in
+      hooked_array rs y w (Along a) (omega arith) gain
+      ∙ ap (λ u. record { rows = sift fifteen (λ r. (row rs r).used); up = u; axis = upd (λ r. (row rs r).axis) y (Along a); gain = λ r. gain (row rs r).test }) (upd_id (λ r. (row rs r).up) y w refl)
+
+  pub moved_array : {T : Type 0} (S : Semiring T) (gain : Test → ℕ → T) → Joins S gain → (m : Move) (rs' : List Seat) → LeftTo rs z m rs' → pattern_of gain rs' ≡ moved S (pattern_of gain rs) w y z m
   unfolding moved hooked pattern_of axed
   moved_array S gain joins Up rs' e =
       ap (pattern_of gain) e ∙ hooked_array rs z w (row rs z).axis (omega arith) gain
@@ -128,20 +142,30 @@ module _ (rs : List Row) (len : length rs ≡ 16) (ok : rooted rs ≡ true) (z :
       let h = y_high in
       ap (pattern_of gain) e ∙ hooked_array one y z (Along b) (omega arith) gain
       ∙ ap (λ P. hooked P y z (Along b)) (hooked_array rs z w (Along a) (omega arith) gain)
-  moved_array S gain joins (Join a) rs' m =
-      let h = y_high in
-      merged_array S gain joins (rehung rs y w (Along a)) rs' z w m
-      ∙ ap (λ P. merged S P w z) (hooked_array rs y w (Along a) (omega arith) gain
-      ∙ ap (λ u. record { rows = sift fifteen (λ r. (row rs r).used); up = u; axis = upd (λ r. (row rs r).axis) y (Along a); gain = λ r. gain (row rs r).test }) (upd_id (λ r. (row rs r).up) y w refl))
+  moved_array S gain joins (Join a) rs' m = merged_array S gain joins (rehung rs y w (Along a)) rs' z w m ∙ ap (λ P. merged S P w z) (first_hung S gain a)
 
-  pub moved_rooted : (m : Move) (rs' : List Row) → MovedTo rs z m rs' → rooted rs' ≡ true
+  -- where z says nothing any more after a join, that is so of the rows in use
+  pub moved_alike : {T : Type 0} (S : Semiring T) (gain : Test → ℕ → T) → Joins S gain → (m : Move) (rs' : List Seat) → MovedTo rs z m rs' → Alike (pattern_of gain rs') (moved S (pattern_of gain rs) w y z m)
+  moved_alike S gain joins Up rs' e = same_alike _ _ (moved_array S gain joins Up rs' e)
+  moved_alike S gain joins (Between a b) rs' e = same_alike _ _ (moved_array S gain joins (Between a b) rs' e)
+  moved_alike S gain joins (Join a) rs' m = unfold moved in subst (λ P. Alike (pattern_of gain rs') (merged S P w z)) (first_hung S gain a) (merged_alike S gain joins (rehung rs y w (Along a)) rs' z w low m)
+
+  pub moved_rooted : (m : Move) (rs' : List Seat) → MovedTo rs z m rs' → rooted rs' ≡ true
   moved_rooted m rs' e =
       let up : ℕ → ℕ = λ i. (row rs i).up in
       rooted_from none rs' (ranked (height up 16) y z m)
-      (subst (λ P. Tree P (ranked (height up 16) y z m)) (sym (moved_array least none (λ a b t e p. refl) m rs' e))
+      (tree_alike (pattern_of none rs') (moved least (pattern_of none rs) w y z m) (ranked (height up 16) y z m) (moved_alike least none (λ a b t e p. refl) m rs' e)
       (tree_kept least (pattern_of none rs) (height up 16) (tree_of none rs (omega arith) ok) w y z (unfold pattern_of in refl) (unfold pattern_of in refl) in_y in_z m))
 
-  pub moved_live : (m : Move) (rs' : List Row) → MovedTo rs z m rs' → (o : ℕ) → live rs o ≡ true → live rs' (moved_output rs z m o) ≡ true
+  pub moved_top : (m : Move) (rs' : List Seat) → MovedTo rs z m rs' → has_root rs ≡ true → has_root rs' ≡ true
+  moved_top Up rs' e u = subst (λ r. has_root r ≡ true) (sym e) (hung_used rs z w (row rs z).axis (omega arith) 0 ∙ u)
+  moved_top (Between a b) rs' e u =
+      let l : length (rehung rs z w (Along a)) ≡ length rs = length-set rs z (hung (row rs z) w (Along a)) in
+      let k = y_high in
+      subst (λ r. has_root r ≡ true) (sym e) (hung_used (rehung rs z w (Along a)) y z (Along b) (omega arith) 0 ∙ hung_used rs z w (Along a) (omega arith) 0 ∙ u)
+  moved_top (Join a) rs' m u = let k = y_high in merged_top (rehung rs y w (Along a)) rs' z w m low (hung_used rs y w (Along a) (omega arith) 0 ∙ u)
+
+  pub moved_live : (m : Move) (rs' : List Seat) → MovedTo rs z m rs' → (o : ℕ) → live rs o ≡ true → live rs' (moved_output rs z m o) ≡ true
   moved_live Up rs' e o h = subst (λ r. live r o ≡ true) (sym e) (hung_live rs z w (row rs z).axis (omega arith) o ∙ h)
   moved_live (Between a b) rs' e o h =
       let l : length (rehung rs z w (Along a)) ≡ length rs = length-set rs z (hung (row rs z) w (Along a)) in
@@ -152,7 +176,7 @@ module _ (rs : List Row) (len : length rs ≡ 16) (ok : rooted rs ≡ true) (z :
       let same = hung_live rs y w (Along a) (omega arith) in
       into_live (rehung rs y w (Along a)) rs' z w m w_z (same w ∙ up_live rs (omega arith) ok y below y_high y_used) o (same o ∙ h)
 
-  pub join_none : (one : List Row) (x : Axis) → one ≡ rehung rs y w x → joined (row one w).test (row one z).test ≡ None → joined (row rs w).test (row rs z).test ≡ None
+  pub join_none : (one : List Seat) (x : Axis) → one ≡ rehung rs y w x → joined (row one w).test (row one z).test ≡ None → joined (row rs w).test (row rs z).test ≡ None
   join_none one x f e =
       let k = y_high in
       let same : (i : ℕ) → (row one i).test ≡ (row rs i).test = λ i. ap (λ o. (row o i).test) f ∙ hung_test rs y w x (omega arith) i in
@@ -160,24 +184,27 @@ module _ (rs : List Row) (len : length rs ≡ 16) (ok : rooted rs ≡ true) (z :
 
 -- another axis
 
-pub axed_array : {T : Type 0} (gain : Test → ℕ → T) (rs : List Row) (z : ℕ) (x : Axis) → z < length rs → pattern_of gain (rehung rs z (row rs z).up x) ≡ axed (pattern_of gain rs) z x
+pub axed_array : {T : Type 0} (gain : Test → ℕ → T) (rs : List Seat) (z : ℕ) (x : Axis) → z < length rs → pattern_of gain (rehung rs z (row rs z).up x) ≡ axed (pattern_of gain rs) z x
 unfolding axed hooked pattern_of
 axed_array gain rs z x l =
     hooked_array rs z (row rs z).up x l gain
     ∙ ap (λ u. record { rows = sift fifteen (λ r. (row rs r).used); up = u; axis = upd (λ r. (row rs r).axis) z x; gain = λ r. gain (row rs r).test }) (upd_id (λ r. (row rs r).up) z _ refl)
 
-pub axed_rooted : (rs : List Row) (z : ℕ) (x : Axis) → length rs ≡ 16 → z < 16 → rooted rs ≡ true → rooted (rehung rs z (row rs z).up x) ≡ true
+pub axed_rooted : (rs : List Seat) (z : ℕ) (x : Axis) → length rs ≡ 16 → z < 16 → rooted rs ≡ true → rooted (rehung rs z (row rs z).up x) ≡ true
 axed_rooted rs z x len l ok =
     let up : ℕ → ℕ = λ i. (row rs i).up in
     rooted_from none _ (height up 16) (subst (λ P. Tree P (height up 16)) (sym (axed_array none rs z x (omega arith))) (tree_axed (pattern_of none rs) (height up 16) (tree_of none rs (omega arith) ok) z x))
 
 -- what room for two rows is
-pub room_parts : (rs : List Row) (z n : ℕ) → length rs ≡ 16 → room rs z n ≡ true → (inner rs z ≡ true) × (1 ≤ n) × (n < 15) × ((row rs n).used ≡ false) × ((row rs (n + 1)).used ≡ false)
-unfolding room free_two
-room_parts rs z n len e =
-    let (a, b) = and_parts _ _ e in
+pub free_parts : (rs : List Seat) (n : ℕ) → free_two rs n ≡ true → (1 ≤ n) × (n < 15) × ((row rs n).used ≡ false) × ((row rs (n + 1)).used ≡ false)
+unfolding free_two
+free_parts rs n b =
     let (p, q) = and_parts _ _ b in
     let (r, s) = and_parts _ _ q in
     let (t, u) = and_parts _ _ s in
     let k : n ≢ 0 = eqb-false _ _ (not-true _ p) in
-    (a, omega arith, ltb-true n 15 r, not-true _ t, not-true _ u)
+    (omega arith, ltb-true n 15 r, not-true _ t, not-true _ u)
+
+pub room_parts : (rs : List Seat) (z n : ℕ) → length rs ≡ 16 → room rs z n ≡ true → (inner rs z ≡ true) × (1 ≤ n) × (n < 15) × ((row rs n).used ≡ false) × ((row rs (n + 1)).used ≡ false)
+unfolding room
+room_parts rs z n len e = let (a, b) = and_parts _ _ e in let (p, q, r, s) = free_parts rs n b in (a, p, q, r, s)

@@ -15,15 +15,14 @@ use Rattle.ways.proofs.Openings.{tree_opened}
 use Rattle.ways.proofs.RowLists.{in_stays}
 use Rattle.ways.proofs.RowSums.{upd_same, upd_other}
 use Rattle.pattern.specs.Questions.{sift, pattern_of}
-use Rattle.pattern.specs.Rows.{top, row, hung, fresh, spread, live, fifteen, rooted}
-use Rattle.pattern.specs.declared.row.Row.{Row}
+use Rattle.pattern.specs.Rows.{Seat, top, row, hung, fresh, spread, has_root, live, fifteen, rooted}
 use Rattle.pattern.specs.declared.row.Test.{Test}
 use Rattle.pattern.specs.declared.row.Test.TheVariants.{Star}
 use Rattle.pattern.proofs.MergedRows.{pattern_cong, least, none}
 use Rattle.pattern.proofs.Moved.{upd_id}
 use Rattle.pattern.proofs.Trees.{upto, upto_in, sift_cong, sift_drop, sift_apart, in_sift, sift_in, fifteen_in, in_fifteen, fifteen_apart, in_rows, tree_of, rooted_from}
 
-set_row : (rs : List Row) (k : ℕ) (r : Row) → k < length rs → row (set rs k r) ≡ upd (row rs) k r
+set_row : (rs : List Seat) (k : ℕ) (r : Seat) → k < length rs → row (set rs k r) ≡ upd (row rs) k r
 set_row rs k r l = fun_ext (λ i. elim (cases_eq i k) [
   | inl e ↦ subst (λ j. row (set rs k r) j ≡ upd (row rs) k r j) (sym e) (get_or-set_same rs k r top l ∙ sym (upd_same (row rs) k r))
   | inr n ↦ get_or-set_other rs k i r top n ∙ sym (upd_other (row rs) k r i n)
@@ -35,12 +34,12 @@ upd_map f g k v = fun_ext (λ i. elim (cases_eq i k) [
   | inr n ↦ ap f (upd_other g k v i n) ∙ sym (upd_other (λ i. f (g i)) k (f v) i n)
 ])
 
-module _ (rs : List Row) (len : length rs ≡ 16) (z n m : ℕ) (x : Axis) (z_high : z < 16) (n_low : 1 ≤ n) (n_high : n < 16) (m_low : 1 ≤ m) (m_high : m < 16) (m_n : m ≢ n)
+module _ (rs : List Seat) (len : length rs ≡ 16) (z n m : ℕ) (x : Axis) (z_high : z < 16) (n_low : 1 ≤ n) (n_high : n < 16) (m_low : 1 ≤ m) (m_high : m < 16) (m_n : m ≢ n)
     (used_z : (row rs z).used ≡ true) (free : (row rs n).used ≡ false) (spare : (row rs m).used ≡ false) where
   abbrev w : ℕ
   w = (row rs z).up
 
-  abbrev rs' : List Row
+  abbrev rs' : List Seat
   rs' = spread rs z n m x
 
   n_z : n ≢ z
@@ -59,13 +58,13 @@ module _ (rs : List Row) (len : length rs ≡ 16) (z n m : ℕ) (x : Axis) (z_hi
       ∙ ap (λ f. upd f z (hung (row rs z) m (Wide DescendantOrSelf))) (set_row one m (fresh n x) (omega arith) ∙ ap (λ f. upd f m (fresh n x)) (set_row rs n (fresh w (Wide AncestorOrSelf)) (omega arith)))
 
   -- a field of the rows
-  field : {B : Type 0} (f : Row → B) → ◌≡◌ {A = ℕ → B} (λ i. f (row rs' i)) (upd (upd (upd (λ i. f (row rs i)) n (f (fresh w (Wide AncestorOrSelf)))) m (f (fresh n x))) z (f (hung (row rs z) m (Wide DescendantOrSelf))))
+  field : {B : Type 0} (f : Seat → B) → ◌≡◌ {A = ℕ → B} (λ i. f (row rs' i)) (upd (upd (upd (λ i. f (row rs i)) n (f (fresh w (Wide AncestorOrSelf)))) m (f (fresh n x))) z (f (hung (row rs z) m (Wide DescendantOrSelf))))
   field f =
       ap (λ g. λ i. f (g i)) rows_spread
       ∙ upd_map f _ z _ ∙ ap (λ g. upd g z (f (hung (row rs z) m (Wide DescendantOrSelf)))) (upd_map f _ m _ ∙ ap (λ g. upd g m (f (fresh n x))) (upd_map f (row rs) n _))
 
   -- a field that the new place of z does not change
-  field_kept : {B : Type 0} (f : Row → B) → f (hung (row rs z) m (Wide DescendantOrSelf)) ≡ f (row rs z) → ◌≡◌ {A = ℕ → B} (λ i. f (row rs' i)) (upd (upd (λ i. f (row rs i)) n (f (fresh w (Wide AncestorOrSelf)))) m (f (fresh n x)))
+  field_kept : {B : Type 0} (f : Seat → B) → f (hung (row rs z) m (Wide DescendantOrSelf)) ≡ f (row rs z) → ◌≡◌ {A = ℕ → B} (λ i. f (row rs' i)) (upd (upd (λ i. f (row rs i)) n (f (fresh w (Wide AncestorOrSelf)))) m (f (fresh n x)))
   field_kept f e = field f ∙ upd_id _ z _ (upd_other (upd (λ i. f (row rs i)) n (f (fresh w (Wide AncestorOrSelf)))) m (f (fresh n x)) z (λ k. m_z (sym k)) ∙ upd_other (λ i. f (row rs i)) n (f (fresh w (Wide AncestorOrSelf))) z (λ k. n_z (sym k)) ∙ sym e)
 
   used_spread : ◌≡◌ {A = ℕ → Bool} (λ i. (row rs' i).used) (upd (upd (λ i. (row rs i).used) n true) m true)
@@ -121,6 +120,9 @@ module _ (rs : List Row) (len : length rs ≡ 16) (z n m : ℕ) (x : Axis) (z_hi
     ]
   ]
 
+  pub spread_top : has_root rs ≡ true → has_root rs' ≡ true
+  spread_top u = grown_used 0 u
+
   pub spread_live : (o : ℕ) → live rs o ≡ true → live rs' o ≡ true
   unfolding live
   spread_live o h = elim (or_cases (eqb o 0) (row rs o).used h) [
@@ -164,7 +166,7 @@ sift_end f g n same none one two past (suc (suc c)) a h l = elim (cases_eq a n) 
 ]
 
 -- so that the pattern is the one of the expansion
-pub spread_last : {T : Type 0} (S : Semiring T) (gain : Test → ℕ → T) → gain Star ≡ star S → (rs : List Row) → length rs ≡ 16 → (z n : ℕ) (x : Axis) → z < 16 → 1 ≤ n → suc n < 16 → (row rs z).used ≡ true →
+pub spread_last : {T : Type 0} (S : Semiring T) (gain : Test → ℕ → T) → gain Star ≡ star S → (rs : List Seat) → length rs ≡ 16 → (z n : ℕ) (x : Axis) → z < 16 → 1 ≤ n → suc n < 16 → (row rs z).used ≡ true →
     ((r : ℕ) → n ≤ r → (row rs r).used ≡ false) →
     pattern_of gain (spread rs z n (suc n) x) ≡ opened S (pattern_of gain rs) (row rs z).up z n (suc n) x ((pattern_of gain rs).rows ++ (n ∷ suc n ∷ []))
 unfolding pattern_of

@@ -4,9 +4,8 @@ use Rattle.std.proofs.lemmas.List.{get_or_past}
 use Rattle.std.proofs.lemmas.Bool.{cases_eq, cases_lt, cases_Bool, eq-eqb, ne_eqb, eqb-true, false≢true, both_ways, and_parts, and_from, or_cases, or_left, or_right, ltb-true, lt-ltb, not-true, not_from_false}
 use Rattle.ways.specs.Ways.{In, Apart, remove, Tree}
 use Rattle.ways.proofs.RowLists.{remove_here, remove_other, all_decides}
-use Rattle.pattern.specs.declared.row.Row.{Row}
 use Rattle.pattern.specs.declared.row.Test.{Test}
-use Rattle.pattern.specs.Rows.{top, row, fifteen, climbs, well_hung, rooted}
+use Rattle.pattern.specs.Rows.{Seat, top, row, fifteen, climbs, well_hung, rooted}
 use Rattle.pattern.specs.Questions.{sift, pattern_of}
 
 -- lists that are sifted
@@ -156,7 +155,7 @@ module _ (used : ℕ → Bool) (up : ℕ → ℕ) where
       down L r x (inl e) k = inl e
       down L r x (inr j) k = inr (in_sift L (λ s. ltb (rank s) (rank r)) x j (lt-ltb _ _ k))
 
-module _ {T : Type 0} (gain : Test → ℕ → T) (rs : List Row) where
+module _ {T : Type 0} (gain : Test → ℕ → T) (rs : List Seat) where
   abbrev used : ℕ → Bool
   used i = (row rs i).used
 

@@ -1,3 +1,4 @@
+pub mod Changes
 pub mod Example
 pub mod Laws
 pub mod Questions

@@ -4,10 +4,9 @@ use Rattle.record.specs.Records.{place, depth_at}
 use Rattle.record.specs.declared.place.Place.{Place}
 use Rattle.tally.specs.Semirings.{Semiring, bracket}
 use Rattle.tally.specs.Tallies.{naturals}
-use Rattle.pattern.specs.Rows.{row, fifteen}
+use Rattle.pattern.specs.Rows.{Seat, seats, row, fifteen}
 use Rattle.pattern.specs.Tests.{passes}
 use Rattle.ways.specs.Ways.{Weighted, value, held}
-use Rattle.pattern.specs.declared.row.Row.{Row}
 use Rattle.pattern.specs.declared.row.Test.{Test}
 use Rattle.pattern.specs.declared.base.Pattern.{Pattern}
 
@@ -20,7 +19,7 @@ sift [] f = []
 sift (r ∷ rs) f = cond (f r) (r ∷ sift rs f) (sift rs f)
 
 -- the rows of an array as a pattern with gains
-unfoldable pub pattern_of : {T : Type 0} → (Test → ℕ → T) → List Row → Weighted T
+unfoldable pub pattern_of : {T : Type 0} → (Test → ℕ → T) → List Seat → Weighted T
 pattern_of gain rs = record {
   rows = sift fifteen (λ r. (row rs r).used);
   up = λ r. (row rs r).up;
@@ -35,7 +34,7 @@ test_gain S lab t p = bracket S (passes lab t p)
 -- what the ways with the output at p that use only the first n places come to in a semiring
 unfoldable pub value_within : {T : Type 0} → Semiring T → ℕ → List Place → Pattern → ℕ → T
 value_within S n places pattern p =
-    value S (depth_at places) n (held S (pattern_of (test_gain S (label_at places)) pattern.rows) pattern.output p)
+    value S (depth_at places) n (held S (pattern_of (test_gain S (label_at places)) (seats pattern.rows)) pattern.output p)
 
 -- what all ways of a pattern with the output at p come to
 unfoldable pub value_at : {T : Type 0} → Semiring T → List Place → Pattern → ℕ → T

@@ -1,74 +1,42 @@
-// Rows in an array, moved.
-ghost use Rattle.std.specs.Prelude.{◌≡◌, ℕ, ◌<◌, ◌≤◌, ◌≢◌, None, MatchOption};
-ghost use Rattle.pattern.specs.Rows.{row, rehung, redirected, MergedInto};
-ghost use Rattle.pattern.specs.Tests.{joined};
+// A row of an array that goes into another.
+ghost use Rattle.std.specs.Prelude.{◌≡◌, ℕ, ◌<◌, ◌≤◌, ◌≢◌, true, map, if◌then◌else◌, nat_eq};
+ghost use Rattle.pattern.specs.Rows.{seats, row, redirected, merged_row};
 
-use crate::row::Row;
-use record::Axis;
+use crate::row::{Row, Test};
 
-// Row z under w by the axis.
-pub(crate) fn hang(rows: [Row; 16], z: u8, w: u8, axis: Axis) -> [Row; 16]
-    requires { z < 16 }
-    ensures { result ≡ rehung rows z w axis }
+// Row w where z was meant.
+pub(crate) fn redirect(row: u8, z: u8, w: u8) -> u8
+    ensures { result ≡ (if nat_eq row z then w else row) }
 {
-    let mut out = rows;
-    let old = rows[z as usize];
-    out[z as usize] = Row {
-        used: old.used,
-        up: w,
-        axis,
-        test: old.test,
-    };
-    out
+    if row == z { w } else { row }
 }
 
 // The rows, those under z now under w.
-fn rehang(rows: [Row; 16], z: u8, w: u8) -> [Row; 16]
+fn rehang(rows: [Option<Row>; 16], z: u8, w: u8) -> [Option<Row>; 16]
     requires { 1 ≤ z }
-    ensures { (i : ℕ) → row result i ≡ redirected z w (row rows i) }
+    ensures { seats result ≡ map (redirected z w) (seats rows) }
 {
     let mut out = rows;
-    for i in 0..16_usize {
-        let old = rows[i];
-        if old.up == z {
-            out[i] = Row {
-                used: old.used,
-                up: w,
-                axis: old.axis,
-                test: old.test,
-            };
-        }
+    for row in &mut out {
+        *row = row.map(|row| Row {
+            up: redirect(row.up, z, w),
+            ..row
+        });
     }
     out
 }
 
-// Row z goes into row w, if some place passes both tests.
-pub(crate) fn merge_into(rows: [Row; 16], z: u8, w: u8) -> Option<[Row; 16]>
+// Row z goes into row w, which is in use and has the test then.
+pub(crate) fn merge_into(rows: [Option<Row>; 16], z: u8, w: u8, test: Test) -> [Option<Row>; 16]
     requires low { 1 ≤ z }
     requires high { z < 16 }
     requires within { w < 16 }
     requires two { w ≢ z }
-    ensures { MatchOption result (joined (row rows w).test (row rows z).test ≡ None) (λ out. MergedInto rows z w out) }
+    requires live { (row (seats rows) w).used ≡ true }
+    ensures { (i : ℕ) → row (seats result) i ≡ merged_row (seats rows) z w test i }
 {
-    match rows[w as usize].test.join(rows[z as usize].test) {
-        None => None,
-        Some(test) => {
-            let mut out = rehang(rows, z, w);
-            let upper = out[w as usize];
-            out[w as usize] = Row {
-                used: upper.used,
-                up: upper.up,
-                axis: upper.axis,
-                test,
-            };
-            let lower = out[z as usize];
-            out[z as usize] = Row {
-                used: false,
-                up: lower.up,
-                axis: lower.axis,
-                test: lower.test,
-            };
-            Some(out)
-        }
-    }
+    let mut out = rehang(rows, z, w);
+    out[w as usize] = out[w as usize].map(|row| Row { test, ..row });
+    out[z as usize] = None;
+    out
 }

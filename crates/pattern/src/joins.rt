@@ -4,30 +4,14 @@ ghost use Rattle.pattern.specs.Tests.{joined, JoinTold};
 
 use crate::row::Test;
 
-// The test that holds where both hold, if there is such a place.
+// The test that holds where both hold, if there is such a place. Apart from `join`, so that what `join` tells is proved once and not arm by arm.
 fn narrower(a: Test, b: Test) -> Option<Test>
     ensures { result ≡ joined a b }
 {
-    match a {
-        Test::Any => Some(b),
-        Test::Star => match b {
-            Test::Any => Some(a),
-            Test::Star => Some(a),
-            Test::Label(_) => Some(b),
-            Test::Root => None,
-        },
-        Test::Label(n) => match b {
-            Test::Any => Some(a),
-            Test::Star => Some(a),
-            Test::Label(m) => { if n == m { Some(a) } else { None } }
-            Test::Root => None,
-        },
-        Test::Root => match b {
-            Test::Any => Some(a),
-            Test::Star => None,
-            Test::Label(_) => None,
-            Test::Root => Some(a),
-        },
+    match (a, b) {
+        (Test::Any, test) | (test, Test::Any) => Some(test),
+        (Test::Star, label @ Test::Label(_)) | (label @ Test::Label(_), Test::Star) => Some(label),
+        (a, b) => (a == b).then_some(a),
     }
 }
 

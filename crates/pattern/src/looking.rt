@@ -1,6 +1,6 @@
 // Which patterns look only forward.
 ghost use Rattle.std.specs.Prelude.{◌≡◌, false, MatchOption};
-ghost use Rattle.pattern.specs.Rows.{is_along, ahead, all_along};
+ghost use Rattle.pattern.specs.Rows.{seat, seats, is_along, ahead, all_along};
 
 use crate::base::Pattern;
 use crate::forward::Forward;
@@ -10,37 +10,28 @@ use record::Axis;
 fn goes_along(axis: Axis) -> bool
     ensures { result ≡ is_along axis }
 {
-    match axis {
-        Axis::Along(_) => true,
-        Axis::Against(_) => false,
-        Axis::Itself => false,
-        Axis::Wide(_) => false,
-    }
+    matches!(axis, Axis::Along(_))
 }
 
 // Whether the row is not in use, or goes along a step.
-fn is_ahead(row: Row) -> bool
-    ensures { result ≡ ahead row }
+fn is_ahead(row: Option<Row>) -> bool
+    ensures { result ≡ ahead (seat row) }
 {
-    !row.used || goes_along(row.axis)
+    row.is_none_or(|row| goes_along(row.axis))
 }
 
-fn all_go_along(rows: &[Row; 16]) -> bool
-    ensures { result ≡ all_along rows.now }
+fn all_go_along(rows: &[Option<Row>; 16]) -> bool
+    ensures { result ≡ all_along (seats rows.now) }
 {
-    for i in 1..16_u8 {
-        if !is_ahead(rows[i as usize]) {
-            return false;
-        }
-    }
-    true
+    rows.iter().skip(1).all(|row| is_ahead(*row))
 }
 
 impl Forward {
     // None exactly if some row in use goes by another axis than along a step.
     pub fn new(pattern: Pattern) -> Option<Forward>
-        ensures { MatchOption result (all_along pattern.rows ≡ false) (λ f. f.pattern ≡ pattern) }
+        ensures { MatchOption result (all_along (seats pattern.rows) ≡ false) (λ f. f.pattern ≡ pattern) }
     {
+        // No `then_some`, as in `from_rows`.
         if all_go_along(&pattern.rows) {
             Some(Forward { pattern })
         } else {

@@ -1,103 +1,74 @@
 // Making patterns of rows, and looking into them.
-ghost use Rattle.std.specs.Prelude.{◌≡◌, true, false, ◌&&◌, MatchOption};
-ghost use Rattle.pattern.specs.Rows.{row, climbs, well_hung, rooted, live, inner, free_two};
+ghost use Rattle.std.specs.Prelude.{◌≡◌, true, false, ◌&&◌, None, MatchOption, slice_index_or};
+ghost use Rattle.pattern.specs.Rows.{seats, row, has_root, climbs, well_hung, rooted, live, free_two};
 
 use crate::base::Pattern;
-use crate::row::{Row, Test};
-use record::{Axis, Step};
+use crate::row::Row;
 
-// The row with that number; past the end, one that is not in use.
-fn row_at(rows: &[Row; 16], r: u8) -> Row
-    ensures { result ≡ row rows.now r }
+// The row with that number, if it is in use.
+pub fn row_at(rows: &[Option<Row>; 16], r: u8) -> Option<Row>
+    ensures { result ≡ slice_index_or rows.now r None }
 {
-    if r < 16 {
-        rows[r as usize]
-    } else {
-        Row {
-            used: false,
-            up: 0,
-            axis: Axis::Along(Step::Child),
-            test: Test::Any,
-        }
-    }
+    rows.get(usize::from(r)).copied().flatten()
 }
 
 // Whether the up-rows lead from a row to row 0, all of them in use.
-fn leads_to_root(rows: &[Row; 16], start: u8) -> bool
-    ensures { result ≡ climbs (λ i. (row rows.now i).used) (λ i. (row rows.now i).up) 16 start }
+fn leads_to_root(rows: &[Option<Row>; 16], start: u8) -> bool
+    ensures { result ≡ climbs (λ i. (row (seats rows.now) i).used) (λ i. (row (seats rows.now) i).up) 16 start }
 {
     let mut r = start;
-    for k in 0..16_u8 {
+    // The number of steps is bounded, since rows that are not known to be a tree may lead in a circle.
+    for _ in 0..16_u8 {
         if r == 0 {
             return true;
         }
-        let row = row_at(rows, r);
-        if !row.used {
+        let Some(row) = row_at(rows, r) else {
             return false;
-        }
+        };
         r = row.up;
     }
     r == 0
 }
 
 // Whether the row is not in use, or its up-rows lead to row 0.
-fn is_well_hung(rows: &[Row; 16], r: u8) -> bool
-    ensures { result ≡ well_hung (λ i. (row rows.now i).used) (λ i. (row rows.now i).up) r }
+fn is_well_hung(rows: &[Option<Row>; 16], r: u8) -> bool
+    ensures { result ≡ well_hung (λ i. (row (seats rows.now) i).used) (λ i. (row (seats rows.now) i).up) r }
 {
-    !row_at(rows, r).used || leads_to_root(rows, r)
+    row_at(rows, r).is_none() || leads_to_root(rows, r)
 }
 
-fn is_rooted(rows: &[Row; 16]) -> bool
-    ensures { result ≡ rooted rows.now }
+fn is_rooted(rows: &[Option<Row>; 16]) -> bool
+    ensures { result ≡ rooted (seats rows.now) }
 {
-    for i in 1..16_u8 {
-        if !is_well_hung(rows, i) {
-            return false;
-        }
-    }
-    true
+    (1..16).all(|r| is_well_hung(rows, r))
 }
 
-fn is_live(rows: &[Row; 16], r: u8) -> bool
-    ensures { result ≡ live rows.now r }
+fn is_live(rows: &[Option<Row>; 16], r: u8) -> bool
+    ensures { result ≡ live (seats rows.now) r }
 {
-    r == 0 || row_at(rows, r).used
+    r == 0 || row_at(rows, r).is_some()
 }
 
 impl Pattern {
-    // Whether z is a row in use below row 0.
-    pub(crate) fn is_inner(self, z: u8) -> bool
-        ensures { result ≡ inner self.rows z }
-    {
-        z != 0 && row_at(&self.rows, z).used
-    }
-
-    // The up-row of a row.
-    pub(crate) fn up_of(self, z: u8) -> u8
-        ensures { result ≡ (row self.rows z).up }
-    {
-        row_at(&self.rows, z).up
-    }
-
-    // Whether the two rows from n on are below row 0 and free.
+    // Whether the two rows from n on are below row 0 and free. The test of n is a match, and the rows are taken out first, since a chain of three
+    // tests, or a row lent out of a pattern, finds no proof.
     pub(crate) fn are_free(self, n: u8) -> bool
-        ensures { result ≡ free_two self.rows n }
+        ensures { result ≡ free_two (seats self.rows) n }
     {
-        if n == 0 {
-            return false;
+        let rows = self.rows;
+        match n {
+            1..=14 => row_at(&rows, n).is_none() && row_at(&rows, n + 1).is_none(),
+            _ => false,
         }
-        if n >= 15 {
-            return false;
-        }
-        !self.rows[n as usize].used & !self.rows[n as usize + 1].used
     }
 
-    // The pattern of these rows with that output. None exactly if the up-rows of some row in use do not lead to row 0, or the
-    // output is neither row 0 nor in use.
-    pub fn from_rows(rows: [Row; 16], output: u8) -> Option<Pattern>
-        ensures { MatchOption result ((rooted rows && live rows output) ≡ false) (λ p. (p.rows ≡ rows) × (p.output ≡ output)) }
+    // The pattern of these rows with that output. None exactly if row 0 is missing, or the up-rows of some row in use do not lead to it, or
+    // the output is neither row 0 nor in use.
+    pub fn from_rows(rows: [Option<Row>; 16], output: u8) -> Option<Pattern>
+        ensures { MatchOption result ((has_root (seats rows) && (rooted (seats rows) && live (seats rows) output)) ≡ false) (λ p. (p.rows ≡ rows) × (p.output ≡ output)) }
     {
-        if is_rooted(&rows) && is_live(&rows, output) {
+        // A pattern can be written down only where its tests are known to have passed, so no `then_some`.
+        if rows[0].is_some() && is_rooted(&rows) && is_live(&rows, output) {
             Some(Pattern { rows, output })
         } else {
             None
@@ -105,18 +76,16 @@ impl Pattern {
     }
 
     // The rows, by number.
-    pub fn rows(self) -> [Row; 16]
+    pub fn rows(self) -> [Option<Row>; 16]
         ensures { result ≡ self.rows }
     {
-        let Pattern { rows, .. } = self;
-        rows
+        self.rows
     }
 
     // The row whose places the pattern selects.
     pub fn output(self) -> u8
         ensures { result ≡ self.output }
     {
-        let Pattern { output, .. } = self;
-        output
+        self.output
     }
 }

@@ -1,105 +1,102 @@
 // A pattern with a row moved by the table, or by another axis.
-ghost use Rattle.std.specs.Prelude.{◌≡◌, ◌<◌, ◌≤◌, true, false, MatchOption, MatchResult};
+ghost use Rattle.std.specs.Prelude.{◌≡◌, true, false, MatchResult};
 ghost use Rattle.record.specs.declared.rules.Move.TheVariants.{Up, Join, Between};
-ghost use Rattle.pattern.specs.Rows.{row, inner, deep, rehung, MovedTo, moved_output, DroppedBy};
+ghost use Rattle.pattern.specs.Changes.{MoveOf};
+ghost use Rattle.pattern.specs.Rows.{seats, row, inner, deep, rehung, MovedTo};
 
-use crate::arrays::{hang, merge_into};
+use crate::arrays::{merge_into, redirect};
 use crate::base::Pattern;
-use crate::changes::{NoSuchRow, redirect};
+use crate::inner::{Deep, Inner, NoSuchRow};
+use crate::row::Row;
 use record::{Axis, Move, Step};
 
+impl Inner {
+    // The row goes by another axis.
+    fn by_axis(self, axis: Axis) -> Pattern
+        ensures { (seats result.rows ≡ rehung (seats self.pattern.rows) self.z (row (seats self.pattern.rows) self.z).up axis) × (result.output ≡ self.pattern.output) }
+    {
+        let mut rows = self.pattern.rows;
+        rows[self.z as usize] = Some(Row { axis, ..self.row });
+        Pattern {
+            rows,
+            output: self.pattern.output,
+        }
+    }
+}
+
+impl Deep {
+    // The row goes up, under the up-row of its up-row.
+    fn raised(self) -> Pattern
+        ensures { MovedTo (seats self.inner.pattern.rows) self.inner.z Up (seats result.rows) × (result.output ≡ self.inner.pattern.output) }
+    {
+        let inner = self.inner;
+        let mut rows = inner.pattern.rows;
+        rows[inner.z as usize] = Some(Row {
+            up: inner.upper.up,
+            ..inner.row
+        });
+        Pattern {
+            rows,
+            output: inner.pattern.output,
+        }
+    }
+
+    // The row goes between its up-row and the up-row of that.
+    fn put_between(self, first: Step, then: Step) -> Pattern
+        ensures { MovedTo (seats self.inner.pattern.rows) self.inner.z (Between first then) (seats result.rows) × (result.output ≡ self.inner.pattern.output) }
+    {
+        let inner = self.inner;
+        let mut rows = inner.pattern.rows;
+        rows[inner.z as usize] = Some(Row {
+            up: inner.upper.up,
+            axis: Axis::Along(first),
+            ..inner.row
+        });
+        rows[inner.row.up as usize] = Some(Row {
+            up: inner.z,
+            axis: Axis::Along(then),
+            ..inner.upper
+        });
+        Pattern {
+            rows,
+            output: inner.pattern.output,
+        }
+    }
+
+    // The row goes into the up-row of its up-row, under which that one then hangs by the step.
+    fn joined_up(self, step: Step) -> Option<Pattern>
+        ensures { MoveOf self.inner.pattern self.inner.z (Join step) result }
+    {
+        let inner = self.inner;
+        let test = self.over.test.join(inner.row.test)?;
+        let mut rows = inner.pattern.rows;
+        rows[inner.row.up as usize] = Some(Row {
+            axis: Axis::Along(step),
+            ..inner.upper
+        });
+        let rows = merge_into(rows, inner.z, inner.upper.up, test);
+        let output = redirect(inner.pattern.output, inner.z, inner.upper.up);
+        Some(Pattern { rows, output })
+    }
+}
+
 impl Pattern {
-    // Row z, in use, goes up, under the up-row of its up-row.
-    fn raise(self, z: u8) -> Pattern
-        requires low { 1 ≤ z }
-        requires high { z < 16 }
-        requires live { (row self.rows z).used ≡ true }
-        requires below { 1 ≤ (row self.rows z).up }
-        ensures { MovedTo self.rows z Up result.rows × (result.output ≡ self.output) }
-    {
-        let row = self.rows[z as usize];
-        let w = self.rows[row.up as usize].up;
-        let rows = hang(self.rows, z, w, row.axis);
-        Pattern {
-            rows,
-            output: self.output,
-        }
-    }
-
-    // Row z, in use, goes between its up-row and the up-row of that.
-    fn put_between(self, z: u8, first: Step, then: Step) -> Pattern
-        requires low { 1 ≤ z }
-        requires high { z < 16 }
-        requires live { (row self.rows z).used ≡ true }
-        requires below { 1 ≤ (row self.rows z).up }
-        ensures { MovedTo self.rows z (Between first then) result.rows × (result.output ≡ self.output) }
-    {
-        let y = self.rows[z as usize].up;
-        let w = self.rows[y as usize].up;
-        let rows = hang(
-            hang(self.rows, z, w, Axis::Along(first)),
-            y,
-            z,
-            Axis::Along(then),
-        );
-        Pattern {
-            rows,
-            output: self.output,
-        }
-    }
-
-    // Row z, in use, goes into the up-row of its up-row, under which that one then hangs by the step.
-    fn join_up(self, z: u8, step: Step) -> Option<Pattern>
-        requires low { 1 ≤ z }
-        requires high { z < 16 }
-        requires live { (row self.rows z).used ≡ true }
-        requires below { 1 ≤ (row self.rows z).up }
-        ensures { MatchOption result (DroppedBy self.rows z (Join step)) (λ p. MovedTo self.rows z (Join step) p.rows × (p.output ≡ moved_output self.rows z (Join step) self.output)) }
-    {
-        let y = self.rows[z as usize].up;
-        let w = self.rows[y as usize].up;
-        match merge_into(hang(self.rows, y, w, Axis::Along(step)), z, w) {
-            None => None,
-            Some(rows) => {
-                let output = redirect(self.output, z, w);
-                Some(Pattern { rows, output })
-            }
-        }
-    }
-
-    // Whether z is a row in use below row 0 whose up-row is not row 0.
-    fn is_deep(self, z: u8) -> bool
-        ensures { result ≡ deep self.rows z }
-    {
-        self.is_inner(z) && self.up_of(z) != 0
-    }
-
     // Moves row z as one move of the table says. None exactly if the move is a join and no place passes both tests.
     pub fn moved(self, z: u8, by: Move) -> Result<Option<Pattern>, NoSuchRow>
-        ensures { MatchResult result (λ o. (deep self.rows z ≡ true) × MatchOption o (DroppedBy self.rows z by) (λ p. MovedTo self.rows z by p.rows × (p.output ≡ moved_output self.rows z by self.output))) (λ _. deep self.rows z ≡ false) }
+        ensures { MatchResult result (λ o. (deep (seats self.rows) z ≡ true) × MoveOf self z by o) (λ _. deep (seats self.rows) z ≡ false) }
     {
-        if !self.is_deep(z) {
-            return Err(NoSuchRow);
-        }
+        let row = self.deep(z)?;
         match by {
-            Move::Up => Ok(Some(self.raise(z))),
-            Move::Join(step) => Ok(self.join_up(z, step)),
-            Move::Between(first, then) => Ok(Some(self.put_between(z, first, then))),
+            Move::Up => Ok(Some(row.raised())),
+            Move::Join(step) => Ok(row.joined_up(step)),
+            Move::Between(first, then) => Ok(Some(row.put_between(first, then))),
         }
     }
 
     // Row z by another axis.
     pub fn with_axis(self, z: u8, axis: Axis) -> Result<Pattern, NoSuchRow>
-        ensures { MatchResult result (λ p. (inner self.rows z ≡ true) × (p.rows ≡ rehung self.rows z (row self.rows z).up axis) × (p.output ≡ self.output)) (λ _. inner self.rows z ≡ false) }
+        ensures { MatchResult result (λ p. (inner (seats self.rows) z ≡ true) × (seats p.rows ≡ rehung (seats self.rows) z (row (seats self.rows) z).up axis) × (p.output ≡ self.output)) (λ _. inner (seats self.rows) z ≡ false) }
     {
-        if !self.is_inner(z) {
-            return Err(NoSuchRow);
-        }
-        let w = self.rows[z as usize].up;
-        let rows = hang(self.rows, z, w, axis);
-        Ok(Pattern {
-            rows,
-            output: self.output,
-        })
+        Ok(self.inner(z)?.by_axis(axis))
     }
 }

@@ -1,4 +1,4 @@
--- One rewriting at three places: exactly one alternative holds where the two axes hold, and None elsewhere.
+-- One rewriting at three places: exactly one alternative holds where the two axes hold, and none elsewhere.
 use Rattle.std.proofs.Common.{◌≡◌, ℕ, suc, ◌+◌, ◌≤◌, Bool, true, ◌&&◌, ◌⊎◌, map, Decides, inl, inr, arith}
 use Rattle.std.proofs.lemmas.Bool.{cases_order}
 use Rattle.std.proofs.lemmas.Bool.Decides.{Decides-and, Decides-eqb}
@@ -44,156 +44,83 @@ exact3 b c d e l p q r f g h i u v w =
     (λ t. l.1 (g (p.0 t))) (λ t. l.1 (h (q.0 t))) (λ t. l.1 (i (r.0 t)))
     (λ s t. u (p.0 s) (q.0 t)) (λ s t. v (p.0 s) (r.0 t)) (λ s t. w (q.0 s) (r.0 t))
 
+-- what each rule of the table says at three places
 module _ (D : ℕ → ℕ) (w y z : ℕ) where
   child_child : (Leads D Child w y × Leads D Child z y) → (Leads D Child w y × (w ≡ z))
   child_child l = grind (arith, cases_order z w)
 
-  child_child·0 : (Leads D Child w y × (w ≡ z)) → (Leads D Child w y × Leads D Child z y)
-  child_child·0 l = grind arith
-
   child_descendant : (Leads D Child w y × Leads D Descendant z y) → ((Leads D Child w y × Leads D Descendant z w) ⊎ (Leads D Child w y × (w ≡ z)))
   child_descendant l = grind (arith, cases_order z w)
-
-  child_descendant·0 : (Leads D Child w y × Leads D Descendant z w) → (Leads D Child w y × Leads D Descendant z y)
-  child_descendant·0 l = grind arith
-
-  child_descendant·1 : (Leads D Child w y × (w ≡ z)) → (Leads D Child w y × Leads D Descendant z y)
-  child_descendant·1 l = grind arith
-
-  child_descendant·01 : (Leads D Child w y × Leads D Descendant z w) → (Leads D Child w y × (w ≡ z)) → ⊥
-  child_descendant·01 l m = grind arith
 
   child_next : (Leads D Child w y × Leads D Next z y) → (Leads D Next z y × Leads D Child w z)
   child_next l = grind (arith, cases_order z w)
 
-  child_next·0 : (Leads D Next z y × Leads D Child w z) → (Leads D Child w y × Leads D Next z y)
-  child_next·0 l = grind arith
-
   child_following : (Leads D Child w y × Leads D FollowingSibling z y) → (Leads D FollowingSibling z y × Leads D Child w z)
   child_following l = grind (arith, cases_order z w)
-
-  child_following·0 : (Leads D FollowingSibling z y × Leads D Child w z) → (Leads D Child w y × Leads D FollowingSibling z y)
-  child_following·0 l = grind arith
 
   descendant_child : (Leads D Descendant w y × Leads D Child z y) → ((Leads D Child w y × (w ≡ z)) ⊎ (Leads D Child z y × Leads D Descendant w z))
   descendant_child l = grind (arith, cases_order z w)
 
-  descendant_child·0 : (Leads D Child w y × (w ≡ z)) → (Leads D Descendant w y × Leads D Child z y)
-  descendant_child·0 l = grind arith
-
-  descendant_child·1 : (Leads D Child z y × Leads D Descendant w z) → (Leads D Descendant w y × Leads D Child z y)
-  descendant_child·1 l = grind arith
-
-  descendant_child·01 : (Leads D Child w y × (w ≡ z)) → (Leads D Child z y × Leads D Descendant w z) → ⊥
-  descendant_child·01 l m = grind arith
-
   descendant_descendant : (Leads D Descendant w y × Leads D Descendant z y) → ((Leads D Descendant w y × Leads D Descendant z w) ⊎ ((Leads D Descendant w y × (w ≡ z)) ⊎ (Leads D Descendant z y × Leads D Descendant w z)))
   descendant_descendant l = grind (arith, cases_order z w)
-
-  descendant_descendant·0 : (Leads D Descendant w y × Leads D Descendant z w) → (Leads D Descendant w y × Leads D Descendant z y)
-  descendant_descendant·0 l = grind arith
-
-  descendant_descendant·1 : (Leads D Descendant w y × (w ≡ z)) → (Leads D Descendant w y × Leads D Descendant z y)
-  descendant_descendant·1 l = grind arith
-
-  descendant_descendant·2 : (Leads D Descendant z y × Leads D Descendant w z) → (Leads D Descendant w y × Leads D Descendant z y)
-  descendant_descendant·2 l = grind arith
-
-  descendant_descendant·01 : (Leads D Descendant w y × Leads D Descendant z w) → (Leads D Descendant w y × (w ≡ z)) → ⊥
-  descendant_descendant·01 l m = grind arith
-
-  descendant_descendant·02 : (Leads D Descendant w y × Leads D Descendant z w) → (Leads D Descendant z y × Leads D Descendant w z) → ⊥
-  descendant_descendant·02 l m = grind arith
-
-  descendant_descendant·12 : (Leads D Descendant w y × (w ≡ z)) → (Leads D Descendant z y × Leads D Descendant w z) → ⊥
-  descendant_descendant·12 l m = grind arith
 
   descendant_next : (Leads D Descendant w y × Leads D Next z y) → (Leads D Next z y × Leads D Descendant w z)
   descendant_next l = grind (arith, cases_order z w)
 
-  descendant_next·0 : (Leads D Next z y × Leads D Descendant w z) → (Leads D Descendant w y × Leads D Next z y)
-  descendant_next·0 l = grind arith
-
   descendant_following : (Leads D Descendant w y × Leads D FollowingSibling z y) → (Leads D FollowingSibling z y × Leads D Descendant w z)
   descendant_following l = grind (arith, cases_order z w)
-
-  descendant_following·0 : (Leads D FollowingSibling z y × Leads D Descendant w z) → (Leads D Descendant w y × Leads D FollowingSibling z y)
-  descendant_following·0 l = grind arith
 
   next_child : (Leads D Next w y × Leads D Child z y) → (Leads D Next w y × Leads D Child z w)
   next_child l = grind (arith, cases_order z w)
 
-  next_child·0 : (Leads D Next w y × Leads D Child z w) → (Leads D Next w y × Leads D Child z y)
-  next_child·0 l = grind arith
-
   next_descendant : (Leads D Next w y × Leads D Descendant z y) → (Leads D Next w y × Leads D Descendant z w)
   next_descendant l = grind (arith, cases_order z w)
-
-  next_descendant·0 : (Leads D Next w y × Leads D Descendant z w) → (Leads D Next w y × Leads D Descendant z y)
-  next_descendant·0 l = grind arith
 
   next_next : (Leads D Next w y × Leads D Next z y) → (Leads D Next w y × (w ≡ z))
   next_next l = grind (arith, cases_order z w)
 
-  next_next·0 : (Leads D Next w y × (w ≡ z)) → (Leads D Next w y × Leads D Next z y)
-  next_next·0 l = grind arith
-
   next_following : (Leads D Next w y × Leads D FollowingSibling z y) → ((Leads D Next w y × Leads D FollowingSibling z w) ⊎ (Leads D Next w y × (w ≡ z)))
   next_following l = grind (arith, cases_order z w)
-
-  next_following·0 : (Leads D Next w y × Leads D FollowingSibling z w) → (Leads D Next w y × Leads D FollowingSibling z y)
-  next_following·0 l = grind arith
-
-  next_following·1 : (Leads D Next w y × (w ≡ z)) → (Leads D Next w y × Leads D FollowingSibling z y)
-  next_following·1 l = grind arith
-
-  next_following·01 : (Leads D Next w y × Leads D FollowingSibling z w) → (Leads D Next w y × (w ≡ z)) → ⊥
-  next_following·01 l m = grind arith
 
   following_child : (Leads D FollowingSibling w y × Leads D Child z y) → (Leads D FollowingSibling w y × Leads D Child z w)
   following_child l = grind (arith, cases_order z w)
 
-  following_child·0 : (Leads D FollowingSibling w y × Leads D Child z w) → (Leads D FollowingSibling w y × Leads D Child z y)
-  following_child·0 l = grind arith
-
   following_descendant : (Leads D FollowingSibling w y × Leads D Descendant z y) → (Leads D FollowingSibling w y × Leads D Descendant z w)
   following_descendant l = grind (arith, cases_order z w)
-
-  following_descendant·0 : (Leads D FollowingSibling w y × Leads D Descendant z w) → (Leads D FollowingSibling w y × Leads D Descendant z y)
-  following_descendant·0 l = grind arith
 
   following_next : (Leads D FollowingSibling w y × Leads D Next z y) → ((Leads D Next w y × (w ≡ z)) ⊎ (Leads D Next z y × Leads D FollowingSibling w z))
   following_next l = grind (arith, cases_order z w)
 
-  following_next·0 : (Leads D Next w y × (w ≡ z)) → (Leads D FollowingSibling w y × Leads D Next z y)
-  following_next·0 l = grind arith
-
-  following_next·1 : (Leads D Next z y × Leads D FollowingSibling w z) → (Leads D FollowingSibling w y × Leads D Next z y)
-  following_next·1 l = grind arith
-
-  following_next·01 : (Leads D Next w y × (w ≡ z)) → (Leads D Next z y × Leads D FollowingSibling w z) → ⊥
-  following_next·01 l m = grind arith
-
   following_following : (Leads D FollowingSibling w y × Leads D FollowingSibling z y) → ((Leads D FollowingSibling w y × Leads D FollowingSibling z w) ⊎ ((Leads D FollowingSibling w y × (w ≡ z)) ⊎ (Leads D FollowingSibling z y × Leads D FollowingSibling w z)))
   following_following l = grind (arith, cases_order z w)
 
-  following_following·0 : (Leads D FollowingSibling w y × Leads D FollowingSibling z w) → (Leads D FollowingSibling w y × Leads D FollowingSibling z y)
-  following_following·0 l = grind arith
+-- The law of the steps of depths is not in reach here: `grind` would apply it without end.
+module _ (D : ℕ → ℕ) (decides : (s : Step) (p q : ℕ) → Decides (leads D s p q) (Leads D s p q)) where
+  both_decides : (s t : Step) (p q u v : ℕ) → Decides (leads D s p q && leads D t u v) (Leads D s p q × Leads D t u v)
+  both_decides s t p q u v = Decides-and _ _ (decides s p q) (decides t u v)
 
-  following_following·1 : (Leads D FollowingSibling w y × (w ≡ z)) → (Leads D FollowingSibling w y × Leads D FollowingSibling z y)
-  following_following·1 l = grind arith
+  move_decides : (sY sZ : Step) (w y z : ℕ) (a : Move) → Decides (move_holds D sY sZ w y z a) (Moved D sY sZ w y z a)
+  move_decides sY sZ w y z Up = both_decides sY sZ w y z w
+  move_decides sY sZ w y z (Join a) = Decides-and _ _ (decides a w y) (Decides-eqb w z)
+  move_decides sY sZ w y z (Between a b) = both_decides b a z y w z
 
-  following_following·2 : (Leads D FollowingSibling z y × Leads D FollowingSibling w z) → (Leads D FollowingSibling w y × Leads D FollowingSibling z y)
-  following_following·2 l = grind arith
-
-  following_following·01 : (Leads D FollowingSibling w y × Leads D FollowingSibling z w) → (Leads D FollowingSibling w y × (w ≡ z)) → ⊥
-  following_following·01 l m = grind arith
-
-  following_following·02 : (Leads D FollowingSibling w y × Leads D FollowingSibling z w) → (Leads D FollowingSibling z y × Leads D FollowingSibling w z) → ⊥
-  following_following·02 l m = grind arith
-
-  following_following·12 : (Leads D FollowingSibling w y × (w ≡ z)) → (Leads D FollowingSibling z y × Leads D FollowingSibling w z) → ⊥
-  following_following·12 l m = grind arith
+  by_moves : (sY sZ : Step) (w y z : ℕ) → bit (leads D sY w y && leads D sZ z y) ≡ count (map (move_holds D sY sZ w y z) (table sY sZ))
+  by_moves Child Child w y z = exact1 _ _ (both_decides Child Child w y z y) (move_decides Child Child w y z (Join Child)) (child_child D w y z) (λ l. grind arith)
+  by_moves Child Descendant w y z = exact2 _ _ _ (both_decides Child Descendant w y z y) (move_decides Child Descendant w y z Up) (move_decides Child Descendant w y z (Join Child)) (child_descendant D w y z) (λ l. grind arith) (λ l. grind arith) (λ l m. grind arith)
+  by_moves Child Next w y z = exact1 _ _ (both_decides Child Next w y z y) (move_decides Child Next w y z (Between Child Next)) (child_next D w y z) (λ l. grind arith)
+  by_moves Child FollowingSibling w y z = exact1 _ _ (both_decides Child FollowingSibling w y z y) (move_decides Child FollowingSibling w y z (Between Child FollowingSibling)) (child_following D w y z) (λ l. grind arith)
+  by_moves Descendant Child w y z = exact2 _ _ _ (both_decides Descendant Child w y z y) (move_decides Descendant Child w y z (Join Child)) (move_decides Descendant Child w y z (Between Descendant Child)) (descendant_child D w y z) (λ l. grind arith) (λ l. grind arith) (λ l m. grind arith)
+  by_moves Descendant Descendant w y z = exact3 _ _ _ _ (both_decides Descendant Descendant w y z y) (move_decides Descendant Descendant w y z Up) (move_decides Descendant Descendant w y z (Join Descendant)) (move_decides Descendant Descendant w y z (Between Descendant Descendant)) (descendant_descendant D w y z) (λ l. grind arith) (λ l. grind arith) (λ l. grind arith) (λ l m. grind arith) (λ l m. grind arith) (λ l m. grind arith)
+  by_moves Descendant Next w y z = exact1 _ _ (both_decides Descendant Next w y z y) (move_decides Descendant Next w y z (Between Descendant Next)) (descendant_next D w y z) (λ l. grind arith)
+  by_moves Descendant FollowingSibling w y z = exact1 _ _ (both_decides Descendant FollowingSibling w y z y) (move_decides Descendant FollowingSibling w y z (Between Descendant FollowingSibling)) (descendant_following D w y z) (λ l. grind arith)
+  by_moves Next Child w y z = exact1 _ _ (both_decides Next Child w y z y) (move_decides Next Child w y z Up) (next_child D w y z) (λ l. grind arith)
+  by_moves Next Descendant w y z = exact1 _ _ (both_decides Next Descendant w y z y) (move_decides Next Descendant w y z Up) (next_descendant D w y z) (λ l. grind arith)
+  by_moves Next Next w y z = exact1 _ _ (both_decides Next Next w y z y) (move_decides Next Next w y z (Join Next)) (next_next D w y z) (λ l. grind arith)
+  by_moves Next FollowingSibling w y z = exact2 _ _ _ (both_decides Next FollowingSibling w y z y) (move_decides Next FollowingSibling w y z Up) (move_decides Next FollowingSibling w y z (Join Next)) (next_following D w y z) (λ l. grind arith) (λ l. grind arith) (λ l m. grind arith)
+  by_moves FollowingSibling Child w y z = exact1 _ _ (both_decides FollowingSibling Child w y z y) (move_decides FollowingSibling Child w y z Up) (following_child D w y z) (λ l. grind arith)
+  by_moves FollowingSibling Descendant w y z = exact1 _ _ (both_decides FollowingSibling Descendant w y z y) (move_decides FollowingSibling Descendant w y z Up) (following_descendant D w y z) (λ l. grind arith)
+  by_moves FollowingSibling Next w y z = exact2 _ _ _ (both_decides FollowingSibling Next w y z y) (move_decides FollowingSibling Next w y z (Join Next)) (move_decides FollowingSibling Next w y z (Between FollowingSibling Next)) (following_next D w y z) (λ l. grind arith) (λ l. grind arith) (λ l m. grind arith)
+  by_moves FollowingSibling FollowingSibling w y z = exact3 _ _ _ _ (both_decides FollowingSibling FollowingSibling w y z y) (move_decides FollowingSibling FollowingSibling w y z Up) (move_decides FollowingSibling FollowingSibling w y z (Join FollowingSibling)) (move_decides FollowingSibling FollowingSibling w y z (Between FollowingSibling FollowingSibling)) (following_following D w y z) (λ l. grind arith) (λ l. grind arith) (λ l. grind arith) (λ l m. grind arith) (λ l m. grind arith) (λ l m. grind arith)
 
 module _ (D : ℕ → ℕ) (root : D 0 ≡ 0) (steps : (i : ℕ) → D (suc i) ≤ suc (D i)) where
   pub leads_decides : (s : Step) (p q : ℕ) → Decides (leads D s p q) (Leads D s p q)
@@ -203,28 +130,5 @@ module _ (D : ℕ → ℕ) (root : D 0 ≡ 0) (steps : (i : ℕ) → D (suc i) �
   leads_decides Next p q = next_decides D root steps p q
   leads_decides FollowingSibling p q = following_decides D root steps p q
 
-  both_decides : (s t : Step) (p q u v : ℕ) → Decides (leads D s p q && leads D t u v) (Leads D s p q × Leads D t u v)
-  both_decides s t p q u v = Decides-and _ _ (leads_decides s p q) (leads_decides t u v)
-
-  move_decides : (sY sZ : Step) (w y z : ℕ) (a : Move) → Decides (move_holds D sY sZ w y z a) (Moved D sY sZ w y z a)
-  move_decides sY sZ w y z Up = both_decides sY sZ w y z w
-  move_decides sY sZ w y z (Join a) = Decides-and _ _ (leads_decides a w y) (Decides-eqb w z)
-  move_decides sY sZ w y z (Between a b) = both_decides b a z y w z
-
   pub pointwise : (sY sZ : Step) (w y z : ℕ) → bit (leads D sY w y && leads D sZ z y) ≡ count (map (move_holds D sY sZ w y z) (table sY sZ))
-  pointwise Child Child w y z = exact1 _ _ (both_decides Child Child w y z y) (move_decides Child Child w y z (Join Child)) (child_child D w y z) (child_child·0 D w y z)
-  pointwise Child Descendant w y z = exact2 _ _ _ (both_decides Child Descendant w y z y) (move_decides Child Descendant w y z Up) (move_decides Child Descendant w y z (Join Child)) (child_descendant D w y z) (child_descendant·0 D w y z) (child_descendant·1 D w y z) (child_descendant·01 D w y z)
-  pointwise Child Next w y z = exact1 _ _ (both_decides Child Next w y z y) (move_decides Child Next w y z (Between Child Next)) (child_next D w y z) (child_next·0 D w y z)
-  pointwise Child FollowingSibling w y z = exact1 _ _ (both_decides Child FollowingSibling w y z y) (move_decides Child FollowingSibling w y z (Between Child FollowingSibling)) (child_following D w y z) (child_following·0 D w y z)
-  pointwise Descendant Child w y z = exact2 _ _ _ (both_decides Descendant Child w y z y) (move_decides Descendant Child w y z (Join Child)) (move_decides Descendant Child w y z (Between Descendant Child)) (descendant_child D w y z) (descendant_child·0 D w y z) (descendant_child·1 D w y z) (descendant_child·01 D w y z)
-  pointwise Descendant Descendant w y z = exact3 _ _ _ _ (both_decides Descendant Descendant w y z y) (move_decides Descendant Descendant w y z Up) (move_decides Descendant Descendant w y z (Join Descendant)) (move_decides Descendant Descendant w y z (Between Descendant Descendant)) (descendant_descendant D w y z) (descendant_descendant·0 D w y z) (descendant_descendant·1 D w y z) (descendant_descendant·2 D w y z) (descendant_descendant·01 D w y z) (descendant_descendant·02 D w y z) (descendant_descendant·12 D w y z)
-  pointwise Descendant Next w y z = exact1 _ _ (both_decides Descendant Next w y z y) (move_decides Descendant Next w y z (Between Descendant Next)) (descendant_next D w y z) (descendant_next·0 D w y z)
-  pointwise Descendant FollowingSibling w y z = exact1 _ _ (both_decides Descendant FollowingSibling w y z y) (move_decides Descendant FollowingSibling w y z (Between Descendant FollowingSibling)) (descendant_following D w y z) (descendant_following·0 D w y z)
-  pointwise Next Child w y z = exact1 _ _ (both_decides Next Child w y z y) (move_decides Next Child w y z Up) (next_child D w y z) (next_child·0 D w y z)
-  pointwise Next Descendant w y z = exact1 _ _ (both_decides Next Descendant w y z y) (move_decides Next Descendant w y z Up) (next_descendant D w y z) (next_descendant·0 D w y z)
-  pointwise Next Next w y z = exact1 _ _ (both_decides Next Next w y z y) (move_decides Next Next w y z (Join Next)) (next_next D w y z) (next_next·0 D w y z)
-  pointwise Next FollowingSibling w y z = exact2 _ _ _ (both_decides Next FollowingSibling w y z y) (move_decides Next FollowingSibling w y z Up) (move_decides Next FollowingSibling w y z (Join Next)) (next_following D w y z) (next_following·0 D w y z) (next_following·1 D w y z) (next_following·01 D w y z)
-  pointwise FollowingSibling Child w y z = exact1 _ _ (both_decides FollowingSibling Child w y z y) (move_decides FollowingSibling Child w y z Up) (following_child D w y z) (following_child·0 D w y z)
-  pointwise FollowingSibling Descendant w y z = exact1 _ _ (both_decides FollowingSibling Descendant w y z y) (move_decides FollowingSibling Descendant w y z Up) (following_descendant D w y z) (following_descendant·0 D w y z)
-  pointwise FollowingSibling Next w y z = exact2 _ _ _ (both_decides FollowingSibling Next w y z y) (move_decides FollowingSibling Next w y z (Join Next)) (move_decides FollowingSibling Next w y z (Between FollowingSibling Next)) (following_next D w y z) (following_next·0 D w y z) (following_next·1 D w y z) (following_next·01 D w y z)
-  pointwise FollowingSibling FollowingSibling w y z = exact3 _ _ _ _ (both_decides FollowingSibling FollowingSibling w y z y) (move_decides FollowingSibling FollowingSibling w y z Up) (move_decides FollowingSibling FollowingSibling w y z (Join FollowingSibling)) (move_decides FollowingSibling FollowingSibling w y z (Between FollowingSibling FollowingSibling)) (following_following D w y z) (following_following·0 D w y z) (following_following·1 D w y z) (following_following·2 D w y z) (following_following·01 D w y z) (following_following·02 D w y z) (following_following·12 D w y z)
+  pointwise sY sZ w y z = by_moves D leads_decides sY sZ w y z

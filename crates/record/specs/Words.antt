@@ -1,6 +1,5 @@
 -- The words of the axes in questions.
-use Rattle.std.specs.Prelude.{ℕ, cond, List, [], ◌∷◌, Some, None, codes, Option}
-use Rattle.std.specs.Str.{bytes_eq}
+use Rattle.std.specs.Prelude.{ℕ, List, codes}
 use Rattle.record.specs.declared.axis.Step.{Step}
 use Rattle.record.specs.declared.axis.Step.TheVariants.{Child, Descendant, Next, FollowingSibling}
 use Rattle.record.specs.declared.axis.Reach.{Reach}
@@ -33,13 +32,3 @@ word_of (Along s) = step_word s
 word_of (Against s) = back_word s
 word_of Itself = codes "self"
 word_of (Wide x) = reach_word x
-
--- all thirteen
-unfoldable pub axes : List Axis
-axes =
-    Along Child ∷ Along Descendant ∷ Along Next ∷ Along FollowingSibling ∷ Against Child ∷ Against Descendant ∷ Against Next ∷ Against FollowingSibling ∷ Itself ∷ Wide DescendantOrSelf ∷ Wide AncestorOrSelf ∷ Wide Following ∷ Wide Preceding ∷ []
-
--- the first axis of the list with that word
-unfoldable pub first_with : List Axis → List ℕ → Option Axis
-first_with [] word = None
-first_with (a ∷ rest) word = cond (bytes_eq (word_of a) word) (Some a) (first_with rest word)

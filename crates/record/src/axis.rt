@@ -1,7 +1,7 @@
 // The thirteen axes, by which one place leads to another.
 
 // Four ways forward in the record.
-#[derive(Clone, Copy)]
+#[derive(Clone, Copy, Debug, PartialEq, Eq)]
 pub enum Step {
     Child,
     Descendant,
@@ -10,7 +10,7 @@ pub enum Step {
 }
 
 // The axes that are put together from steps.
-#[derive(Clone, Copy)]
+#[derive(Clone, Copy, Debug, PartialEq, Eq)]
 pub enum Reach {
     DescendantOrSelf,
     AncestorOrSelf,
@@ -20,7 +20,7 @@ pub enum Reach {
 
 // An axis goes along a step or against it: parent is against child, ancestor against descendant, previous against next,
 // preceding-sibling against following-sibling. `Itself` is the axis with the word self.
-#[derive(Clone, Copy)]
+#[derive(Clone, Copy, Debug, PartialEq, Eq)]
 pub enum Axis {
     Along(Step),
     Against(Step),

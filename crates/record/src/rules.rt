@@ -6,7 +6,7 @@ use crate::axis::Step;
 
 // How a row Z is moved that goes against a step from its up-row Y; W is the up-row of Y. `Up`: Z hangs under W by its own axis.
 // `Join(a)`: Z goes into W, and Y hangs under W by a. `Between(a, b)`: Z hangs under W by a, and Y under Z by b.
-#[derive(Clone, Copy)]
+#[derive(Clone, Copy, Debug, PartialEq, Eq)]
 pub enum Move {
     Up,
     Join(Step),
@@ -17,13 +17,8 @@ pub enum Move {
 pub fn moves(upper: Step, lower: Step) -> &'static [Move]
     ensures { result.now ≡ table upper lower }
 {
-    use Move::Between;
-    use Move::Join;
-    use Move::Up;
-    use Step::Child;
-    use Step::Descendant;
-    use Step::FollowingSibling;
-    use Step::Next;
+    use Move::{Between, Join, Up};
+    use Step::{Child, Descendant, FollowingSibling, Next};
     match (upper, lower) {
         (Child, Child) => &[Join(Child)],
         (Child, Descendant) => &[Up, Join(Child)],

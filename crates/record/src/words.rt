@@ -1,10 +1,11 @@
 // Axes by their words, and the axes that lead back.
 ghost use Rattle.std.specs.Prelude.{◌≡◌, Some};
 ghost use Rattle.record.specs.Axes.{inverse_of, is_forward};
-ghost use Rattle.record.specs.Words.{step_word, back_word, reach_word, word_of, first_with};
+ghost use Rattle.record.specs.Words.{word_of};
 
 use crate::axis::{Axis, Reach, Step};
 
+// All thirteen axes.
 const AXES: [Axis; 13] = [
     Axis::Along(Step::Child),
     Axis::Along(Step::Descendant),
@@ -21,70 +22,34 @@ const AXES: [Axis; 13] = [
     Axis::Wide(Reach::Preceding),
 ];
 
-fn step_word(step: Step) -> &'static [u8]
-    ensures { result.now ≡ step_word step }
-{
-    match step {
-        Step::Child => b"child",
-        Step::Descendant => b"descendant",
-        Step::Next => b"next",
-        Step::FollowingSibling => b"following-sibling",
-    }
-}
-
-fn back_word(step: Step) -> &'static [u8]
-    ensures { result.now ≡ back_word step }
-{
-    match step {
-        Step::Child => b"parent",
-        Step::Descendant => b"ancestor",
-        Step::Next => b"previous",
-        Step::FollowingSibling => b"preceding-sibling",
-    }
-}
-
-fn reach_word(reach: Reach) -> &'static [u8]
-    ensures { result.now ≡ reach_word reach }
-{
-    match reach {
-        Reach::DescendantOrSelf => b"descendant-or-self",
-        Reach::AncestorOrSelf => b"ancestor-or-self",
-        Reach::Following => b"following",
-        Reach::Preceding => b"preceding",
-    }
-}
-
-// The first of the axes with that word.
-fn first_with(list: &[Axis], word: &[u8]) -> Option<Axis>
-    ensures { result ≡ first_with list.now word.now }
-{
-    for i in 0..list.len() {
-        if list[i].word() == word {
-            return Some(list[i]);
-        }
-    }
-    None
-}
-
 impl Axis {
-    // The word of the axis in a question.
+    // The word of the axis in a question. Not a `Display`: questions are bytes, so that text would be a conversion more.
     pub fn word(self) -> &'static [u8]
         ensures { result.now ≡ word_of self }
     {
         match self {
-            Axis::Along(step) => step_word(step),
-            Axis::Against(step) => back_word(step),
+            Axis::Along(Step::Child) => b"child",
+            Axis::Along(Step::Descendant) => b"descendant",
+            Axis::Along(Step::Next) => b"next",
+            Axis::Along(Step::FollowingSibling) => b"following-sibling",
+            Axis::Against(Step::Child) => b"parent",
+            Axis::Against(Step::Descendant) => b"ancestor",
+            Axis::Against(Step::Next) => b"previous",
+            Axis::Against(Step::FollowingSibling) => b"preceding-sibling",
             Axis::Itself => b"self",
-            Axis::Wide(reach) => reach_word(reach),
+            Axis::Wide(Reach::DescendantOrSelf) => b"descendant-or-self",
+            Axis::Wide(Reach::AncestorOrSelf) => b"ancestor-or-self",
+            Axis::Wide(Reach::Following) => b"following",
+            Axis::Wide(Reach::Preceding) => b"preceding",
         }
     }
 
-    // The axis with that word, if there is one.
+    // The axis with that word, if there is one. Not a `TryFrom`, whose error would have nothing to say.
     pub fn from_word(word: &[u8]) -> Option<Axis>
         ensures fits { (a : Axis) → result ≡ Some a → word_of a ≡ word.now }
         ensures finds { (a : Axis) → word_of a ≡ word.now → result ≡ Some a }
     {
-        first_with(&AXES, word)
+        AXES.iter().find(|axis| axis.word() == word).copied()
     }
 
     // The axis that leads back.
@@ -106,11 +71,9 @@ impl Axis {
     pub fn is_forward(self) -> bool
         ensures { result ≡ is_forward self }
     {
-        match self {
-            Axis::Along(_) | Axis::Itself => true,
-            Axis::Against(_) => false,
-            Axis::Wide(Reach::DescendantOrSelf | Reach::Following) => true,
-            Axis::Wide(Reach::AncestorOrSelf | Reach::Preceding) => false,
-        }
+        matches!(
+            self,
+            Axis::Along(_) | Axis::Itself | Axis::Wide(Reach::DescendantOrSelf | Reach::Following)
+        )
     }
 }

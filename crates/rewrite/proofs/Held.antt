@@ -13,21 +13,21 @@ use Rattle.ways.specs.Expanding.{Grown, star, opened}
 use Rattle.ways.specs.Merging.{Under, axed, merged}
 use Rattle.ways.specs.Rewriting.{Spot, moved}
 use Rattle.ways.specs.Ways.{In, Weighted, value, weighted, Tree}
+use Rattle.ways.proofs.Alike.{value_alike, weighted_alike}
 use Rattle.ways.proofs.Merges.{Beside, weighted_merged, merged_nought}
 use Rattle.ways.proofs.Steps.{step}
 use Rattle.ways.proofs.Openings.{below_kept, above_kept, following_kept, preceding_kept, weighted_opened}
 use Rattle.pattern.specs.Questions.{pattern_of, test_gain}
-use Rattle.pattern.specs.Rows.{row, rooted, second, rehung, spread, MovedTo, moved_output, DroppedBy}
-use Rattle.pattern.specs.declared.row.Row.{Row}
+use Rattle.pattern.specs.Rows.{Seat, row, rooted, second, rehung, spread, MovedTo, moved_output, DroppedBy}
 use Rattle.pattern.specs.declared.row.Test.TheVariants.{Star}
 use Rattle.pattern.proofs.Kept.{weighted_apart, under_weighted}
 use Rattle.pattern.proofs.MergedRows.{up_apart, tests_join, tests_apart}
-use Rattle.pattern.proofs.Moved.{moved_array, axed_array, w_z}
+use Rattle.pattern.proofs.Moved.{moved_alike, axed_array, w_z}
 use Rattle.pattern.proofs.Spreads.{spread_array, spread_grown}
 use Rattle.pattern.proofs.Trees.{in_rows, height, tree_of}
 
 module _ {T : Type 0} (S : Semiring T) (D : ℕ → ℕ) (root : D 0 ≡ 0) (steps : (i : ℕ) → D (suc i) ≤ suc (D i)) (n : ℕ) (some_place : 0 < n) (lab : ℕ → ℕ)
-    (rs : List Row) (len : length rs ≡ 16) (ok : rooted rs ≡ true) (z : ℕ) (low : 1 ≤ z) (high : z < 16) (used : (row rs z).used ≡ true) (below : 1 ≤ (row rs z).up)
+    (rs : List Seat) (len : length rs ≡ 16) (ok : rooted rs ≡ true) (z : ℕ) (low : 1 ≤ z) (high : z < 16) (used : (row rs z).used ≡ true) (below : 1 ≤ (row rs z).up)
     (o : ℕ) (v : ℕ → T) where
   abbrev P : Weighted T
   P = pattern_of (test_gain S lab) rs
@@ -52,15 +52,20 @@ module _ {T : Type 0} (S : Semiring T) (D : ℕ → ℕ) (root : D 0 ≡ 0) (ste
   unfolding axed pattern_of
   beside_axed a = record { apart = tree.apart; no_top = tree.no_root; within = in_z; within_W = tree.ups y in_y; W_Z = w_z rs len ok z low high used below }
 
+  -- a factor at a row of the array is one at the row of the pattern
+  alike : (m : Move) (rs' : List Seat) → MovedTo rs z m rs' → (k : ℕ) → value S D n (weighted S (pattern_of (test_gain S lab) rs') k v) ≡ value S D n (weighted S (moved S P w y z m) k v)
+  unfolding test_gain
+  alike m rs' h k =
+      value_alike S D n some_place _ _
+      (weighted_alike S (pattern_of (test_gain S lab) rs') (moved S P w y z m) k v (moved_alike rs len ok z low high used below S (test_gain S lab) (tests_join S lab) m rs' h))
+
   -- the factor is at the row where the output goes
-  pub moved_kept : (m : Move) (rs' : List Row) → MovedTo rs z m rs' →
+  pub moved_kept : (m : Move) (rs' : List Seat) → MovedTo rs z m rs' →
       value S D n (moved S (weighted S P o v) w y z m) ≡ value S D n (weighted S (pattern_of (test_gain S lab) rs') (moved_output rs z m o) v)
   unfolding moved weighted axed test_gain
-  moved_kept Up rs' h = ap (λ Q. value S D n (weighted S Q o v)) (sym (moved_array rs len ok z low high used below S (test_gain S lab) (tests_join S lab) Up rs' h))
-  moved_kept (Between a b) rs' h = ap (λ Q. value S D n (weighted S Q o v)) (sym (moved_array rs len ok z low high used below S (test_gain S lab) (tests_join S lab) (Between a b) rs' h))
-  moved_kept (Join a) rs' h =
-      weighted_merged S D n some_place (axed P y (Along a)) w z (beside_axed a) o v
-      ∙ ap (λ Q. value S D n (weighted S Q (moved_output rs z (Join a) o) v)) (sym (moved_array rs len ok z low high used below S (test_gain S lab) (tests_join S lab) (Join a) rs' h))
+  moved_kept Up rs' h = sym (alike Up rs' h o)
+  moved_kept (Between a b) rs' h = sym (alike (Between a b) rs' h o)
+  moved_kept (Join a) rs' h = weighted_merged S D n some_place (axed P y (Along a)) w z (beside_axed a) o v ∙ sym (alike (Join a) rs' h (moved_output rs z (Join a) o))
 
   beside_weighted : (a : Step) → Beside (axed (weighted S P o v) y (Along a)) w z
   unfolding axed weighted pattern_of
@@ -94,7 +99,7 @@ module _ {T : Type 0} (S : Semiring T) (D : ℕ → ℕ) (root : D 0 ≡ 0) (ste
 
 -- a row in use, whatever its up-row
 module _ {T : Type 0} (S : Semiring T) (D : ℕ → ℕ) (root : D 0 ≡ 0) (steps : (i : ℕ) → D (suc i) ≤ suc (D i)) (n : ℕ) (some_place : 0 < n) (others : (i : ℕ) → 0 < i → i < n → 1 ≤ D i) (lab : ℕ → ℕ)
-    (rs : List Row) (len : length rs ≡ 16) (ok : rooted rs ≡ true) (z : ℕ) (low : 1 ≤ z) (high : z < 16) (used : (row rs z).used ≡ true)
+    (rs : List Seat) (len : length rs ≡ 16) (ok : rooted rs ≡ true) (z : ℕ) (low : 1 ≤ z) (high : z < 16) (used : (row rs z).used ≡ true)
     (o : ℕ) (v : ℕ → T) where
   abbrev R : Weighted T
   R = pattern_of (test_gain S lab) rs

@@ -1,5 +1,5 @@
 -- What is done next with a pattern.
-use Rattle.std.specs.Prelude.{◌≡◌, ℕ, true, cond, ◌&&◌, ◌⊎◌, List, [], ◌∷◌, Some, None, Option, ◌==◌}
+use Rattle.std.specs.Prelude.{◌≡◌, ℕ, ◌<◌, ◌≤◌, true, cond, ◌&&◌, ◌⊎◌, List, [], ◌∷◌, Some, None, Option, unwrap_or, ◌==◌, slice_index_or}
 use Rattle.record.specs.declared.axis.Step.TheVariants.{Descendant, FollowingSibling}
 use Rattle.record.specs.declared.axis.Reach.TheVariants.{DescendantOrSelf, AncestorOrSelf, Following, Preceding}
 use Rattle.record.specs.declared.axis.Axis.{Axis}
@@ -7,12 +7,10 @@ use Rattle.record.specs.declared.axis.Axis.TheVariants.{Along, Against, Itself, 
 use Rattle.record.specs.Records.{Record}
 use Rattle.record.specs.declared.place.Place.{Place}
 use Rattle.pattern.specs.Questions.{ways}
-use Rattle.pattern.specs.Rows.{row, fifteen, inner, deep, all_along}
+use Rattle.pattern.specs.Rows.{Seat, seat, seats, row, fifteen, inner, deep, all_along}
 use Rattle.pattern.specs.declared.base.Pattern.{Pattern}
 use Rattle.pattern.specs.declared.row.Row.{Row}
 use Rattle.ways.specs.Rewriting.{strays}
-use Rattle.rewrite.specs.declared.turns.Phase.{Phase}
-use Rattle.rewrite.specs.declared.turns.Phase.TheVariants.{Expanding, Straying, Shifting}
 use Rattle.rewrite.specs.declared.turns.Turn.{Turn}
 use Rattle.rewrite.specs.declared.turns.Turn.TheVariants.{Kept, Dropped, Merge, Split, Open, Shift}
 
@@ -45,34 +43,48 @@ shift_by i (Wide z) above = None
 abbrev pub stray_by : ℕ → Axis → Option Turn
 stray_by up x = cond (up == 0 && strays x) (Some Dropped) None
 
--- what row i asks for
-abbrev pub want_by : Phase → ℕ → ℕ → Axis → Axis → Option Turn
-want_by Expanding i up x above = expansion_by i x
-want_by Straying i up x above = stray_by up x
-want_by Shifting i up x above = shift_by i x above
+-- what row i asks for, if it is in use
+abbrev pub want_at : List Seat → (ℕ → Seat → Option Turn) → ℕ → Option Turn
+want_at rs want i = cond (row rs i).used (want i (row rs i)) None
 
-abbrev pub want_at : List Row → Phase → ℕ → Option Turn
-want_at rs phase i = cond (row rs i).used (want_by phase i (row rs i).up (row rs i).axis (row rs (row rs i).up).axis) None
+-- what the lowest-numbered row asks for that asks for something
+abbrev pub first_want : List Seat → (ℕ → Seat → Option Turn) → Option Turn
+first_want rs want = first_some (want_at rs want) fifteen
 
-abbrev pub first_want : List Row → Phase → Option Turn
-first_want rs phase = first_some (want_at rs phase) fifteen
+-- what a search finds that asks each row in use: where its answers are those of a function, what that function gives first
+pub record FirstWant (rows : List (Option Row)) (answers : ℕ → Row → Option Turn → Type 0) (found : Option Turn) : Type 0 where
+  pub first : (want : ℕ → Seat → Option Turn) → ((i : ℕ) (r : Row) (t : Option Turn) → 1 ≤ i → i < 16 → slice_index_or rows i None ≡ Some r → answers i r t → t ≡ want i (seat (Some r))) → found ≡ first_want (seats rows) want
 
-abbrev pub or_else : {A : Type 0} → Option A → A → A
-or_else None other = other
-or_else (Some x) other = x
+-- the three things that a row may ask for
+abbrev pub expanding : ℕ → Seat → Option Turn
+expanding i r = expansion_by i r.axis
+
+abbrev pub straying : ℕ → Seat → Option Turn
+straying i r = stray_by r.up r.axis
+
+abbrev pub shifting : List Seat → ℕ → Seat → Option Turn
+shifting rs i r = shift_by i r.axis (row rs r.up).axis
 
 -- the lowest-numbered row for expansion; then whether a row goes astray; then the lowest-numbered row for the table; then the end
-abbrev pub turn_of : List Row → Turn
-turn_of rs = or_else (first_want rs Expanding) (or_else (first_want rs Straying) (or_else (first_want rs Shifting) Kept))
+abbrev pub turn_of : List Seat → Turn
+turn_of rs = unwrap_or (first_want rs expanding) (unwrap_or (first_want rs straying) (unwrap_or (first_want rs (shifting rs)) Kept))
 
--- what a turn says of its pattern: one that is kept looks only forward, one that is dropped has no way in any record, and a row that is
--- named is in use and goes by the axis for which the turn is
+-- what a turn that goes on says of the rows: the row that it names is in use, and goes by the axis for which the turn is
+abbrev pub Asked : List Seat → Turn → Type 0
+Asked rs Kept = Unit {0}
+Asked rs Dropped = Unit {0}
+Asked rs (Merge z) = (inner rs z ≡ true) × ((row rs z).axis ≡ Itself)
+Asked rs (Split z x) =
+    (inner rs z ≡ true) × ((((row rs z).axis ≡ Wide DescendantOrSelf) × (x ≡ Along Descendant)) ⊎ (((row rs z).axis ≡ Wide AncestorOrSelf) × (x ≡ Against Descendant)))
+Asked rs (Open z x) =
+    (inner rs z ≡ true) × ((((row rs z).axis ≡ Wide Following) × (x ≡ Along FollowingSibling)) ⊎ (((row rs z).axis ≡ Wide Preceding) × (x ≡ Against FollowingSibling)))
+Asked rs (Shift z y s) = (deep rs z ≡ true) × ((row rs (row rs z).up).axis ≡ Along y) × ((row rs z).axis ≡ Against s)
+
+-- what a turn says of its pattern: one that is kept looks only forward, one that is dropped has no way in any record, and else a row asks
 abbrev pub Told : Pattern → Turn → Type 0
-Told P Kept = all_along P.rows ≡ true
+Told P Kept = all_along (seats P.rows) ≡ true
 Told P Dropped = (places : List Place) → Record places → (p : ℕ) → ways places P p ≡ 0
-Told P (Merge z) = (inner P.rows z ≡ true) × ((row P.rows z).axis ≡ Itself)
-Told P (Split z x) =
-    (inner P.rows z ≡ true) × ((((row P.rows z).axis ≡ Wide DescendantOrSelf) × (x ≡ Along Descendant)) ⊎ (((row P.rows z).axis ≡ Wide AncestorOrSelf) × (x ≡ Against Descendant)))
-Told P (Open z x) =
-    (inner P.rows z ≡ true) × ((((row P.rows z).axis ≡ Wide Following) × (x ≡ Along FollowingSibling)) ⊎ (((row P.rows z).axis ≡ Wide Preceding) × (x ≡ Against FollowingSibling)))
-Told P (Shift z y s) = (deep P.rows z ≡ true) × ((row P.rows (row P.rows z).up).axis ≡ Along y) × ((row P.rows z).axis ≡ Against s)
+Told P (Merge z) = Asked (seats P.rows) (Merge z)
+Told P (Split z x) = Asked (seats P.rows) (Split z x)
+Told P (Open z x) = Asked (seats P.rows) (Open z x)
+Told P (Shift z y s) = Asked (seats P.rows) (Shift z y s)

@@ -1,63 +1,36 @@
 // The lowest-numbered row that asks for something.
 ghost use Rattle.std.specs.Prelude.{◌≡◌, ◌<◌};
-ghost use Rattle.pattern.specs.Rows.{row};
-ghost use Rattle.rewrite.specs.Turns.{want_at, first_want, turn_of, Told};
+ghost use Rattle.pattern.specs.Rows.{seats, row};
+ghost use Rattle.rewrite.specs.Turns.{FirstWant, turn_of, Told};
 
-use crate::turns::{Phase, Turn};
-use crate::wants::want_by;
-use pattern::{Pattern, Row};
+use crate::turns::Turn;
+use crate::wants::{expansion_by, shift_by, stray_by};
+use pattern::{Pattern, Row, row_at};
 use record::{Axis, Step};
 
-// The axis of a row; past the end, child.
-fn axis_of(rows: &[Row; 16], r: u8) -> Axis
-    ensures { result ≡ (row rows.now r).axis }
+// The axis of a row; of one that is not in use, child, as the definition reads it.
+fn axis_of(rows: &[Option<Row>; 16], r: u8) -> Axis
+    ensures { result ≡ (row (seats rows.now) r).axis }
 {
-    if r < 16 {
-        rows[r as usize].axis
-    } else {
-        Axis::Along(Step::Child)
-    }
+    row_at(rows, r).map_or(Axis::Along(Step::Child), |row| row.axis)
 }
 
-// What row i asks for, if it is in use.
-fn want_at(rows: &[Row; 16], phase: Phase, i: u8) -> Option<Turn>
-    requires { i < 16 }
-    ensures { result ≡ want_at rows.now phase i }
+// The first answer that a row in use gives, from the lowest number on. The search goes by numbers, since a row's number is part of its answer.
+fn first_want<F: Fn(u8, Row) -> Option<Turn>>(rows: &[Option<Row>; 16], want: F) -> Option<Turn>
+    requires { F.IsAlwaysCallable want }
+    ensures { FirstWant rows.now (F.post want) result }
 {
-    let row = rows[i as usize];
-    if row.used {
-        want_by(phase, i, row.up, row.axis, axis_of(rows, row.up))
-    } else {
-        None
-    }
+    (1..16).find_map(|i| want(i, rows[usize::from(i)]?))
 }
 
-// What the lowest-numbered row asks for that asks for something.
-fn first_want(rows: &[Row; 16], phase: Phase) -> Option<Turn>
-    ensures { result ≡ first_want rows.now phase }
+// What the rows ask for: to be expanded, then to drop the pattern, then to be moved by the table.
+fn turn_in(rows: &[Option<Row>; 16]) -> Turn
+    ensures { result ≡ turn_of (seats rows.now) }
 {
-    for i in 1..16_u8 {
-        if let Some(turn) = want_at(rows, phase, i) {
-            return Some(turn);
-        }
-    }
-    None
-}
-
-// What the rows ask for, phase after phase.
-fn turn_in(rows: &[Row; 16]) -> Turn
-    ensures { result ≡ turn_of rows.now }
-{
-    if let Some(turn) = first_want(rows, Phase::Expanding) {
-        return turn;
-    }
-    if let Some(turn) = first_want(rows, Phase::Straying) {
-        return turn;
-    }
-    if let Some(turn) = first_want(rows, Phase::Shifting) {
-        return turn;
-    }
-    Turn::Kept
+    first_want(rows, |i, row| expansion_by(i, row.axis))
+        .or_else(|| first_want(rows, |_, row| stray_by(row.up, row.axis)))
+        .or_else(|| first_want(rows, |i, row| shift_by(i, row.axis, axis_of(rows, row.up))))
+        .unwrap_or(Turn::Kept)
 }
 
 // What is done next with a pattern: the lowest-numbered row is expanded; if there is none, the pattern is dropped where a row right under
@@ -65,9 +38,8 @@ fn turn_in(rows: &[Row; 16]) -> Turn
 // against a step from an up-row which goes along one; if there is none, the pattern is kept. A pattern that is kept looks only
 // forward, and one that is dropped has no way in any record.
 pub fn next_turn(pattern: Pattern) -> Turn
-    ensures value { result ≡ turn_of pattern.rows }
+    ensures value { result ≡ turn_of (seats pattern.rows) }
     ensures told { Told pattern result }
 {
-    let rows = pattern.rows();
-    turn_in(&rows)
+    turn_in(&pattern.rows())
 }

@@ -1,6 +1,7 @@
 -- The natural numbers, yes or no, and the capped count, as semirings.
-use Rattle.std.specs.Prelude.{◌≡◌, ℕ, zero, suc, ◌+◌, ◌*◌, ◌≤◌, min, Bool, true, false, ◌&&◌, ◌||◌, nat_le, refl}
+use Rattle.std.specs.Prelude.{◌≡◌, ℕ, zero, suc, ◌+◌, ◌*◌, ◌≤◌, min, Bool, true, false, ◌&&◌, ◌||◌, nat_le}
 use Rattle.std.proofs.Common.{sym, ap, subst, ◌∙◌, inl, inr, mul_comm, mul_assoc, mul-add, mul-suc, mul-zero, arith}
+use Rattle.std.proofs.Math.Bool.{or_comm, or_assoc, and_comm, and_assoc, and-or_distrib_left}
 use Rattle.std.proofs.Math.Bridge.{le_prop}
 use Rattle.std.proofs.lemmas.Bool.{cases_lt}
 use Rattle.tally.specs.Limits.{max_count}
@@ -28,30 +29,6 @@ naturals = record {
 abbrev pub yes_no : Bool → YesNo
 yes_no b = record { yes = b }
 
-pub or_comm : (a b : Bool) → (a || b) ≡ (b || a)
-or_comm true true = refl
-or_comm true false = refl
-or_comm false true = refl
-or_comm false false = refl
-
-pub or_assoc : (a b c : Bool) → ((a || b) || c) ≡ (a || (b || c))
-or_assoc true b c = refl
-or_assoc false b c = refl
-
-pub and_comm : (a b : Bool) → (a && b) ≡ (b && a)
-and_comm true true = refl
-and_comm true false = refl
-and_comm false true = refl
-and_comm false false = refl
-
-pub and_assoc : (a b c : Bool) → ((a && b) && c) ≡ (a && (b && c))
-and_assoc true b c = refl
-and_assoc false b c = refl
-
-pub and_or : (a b c : Bool) → (a && (b || c)) ≡ ((a && b) || (a && c))
-and_or true b c = refl
-and_or false b c = refl
-
 -- or for plus, and for times
 abbrev pub yes_no_ring : Semiring YesNo
 yes_no_ring = record {
@@ -66,7 +43,7 @@ yes_no_ring = record {
   times_comm = λ x y. ap yes_no (and_comm x.yes y.yes);
   times_one = λ x. ap yes_no (and_comm x.yes true);
   times_nought = λ x. ap yes_no (and_comm x.yes false);
-  times_plus = λ x y z. ap yes_no (and_or x.yes y.yes z.yes);
+  times_plus = λ x y z. ap yes_no (and-or_distrib_left x.yes y.yes z.yes);
 }
 
 abbrev made : (n : ℕ) → n ≤ max_count → Count
@@ -95,7 +72,7 @@ counted n = record { value = limit n; within = cap_within n }
 pub cap_left : (a b : ℕ) → limit (limit a * b) ≡ limit (a * b)
 cap_left a zero = simp mul-zero
 cap_left a (suc b) = elim (cases_lt a max_count) [
-  | inl lt ↦ let e : limit a ≡ a = omega arith in rw e refl
+  | inl lt ↦ let e : limit a ≡ a = omega arith in rw e
   | inr ge ↦
       let e : limit a ≡ max_count = omega arith in
       let x = mul-suc max_count b in

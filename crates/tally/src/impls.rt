@@ -5,8 +5,6 @@ ghost use Rattle.tally.specs.Tallies.{yes_no, yes_no_ring, counted, count_ring};
 use crate::counts::{Count, YesNo};
 use crate::tallies::Tally;
 
-const MAX_COUNT: u32 = 65535;
-
 impl Tally for YesNo {
     ghost ring = { yes_no_ring };
 
@@ -22,18 +20,18 @@ impl Tally for YesNo {
 
     fn plus(self, other: YesNo) -> YesNo {
         YesNo {
-            yes: self.yes | other.yes,
+            yes: self.yes || other.yes,
         }
     }
 
     fn times(self, other: YesNo) -> YesNo {
         YesNo {
-            yes: self.yes & other.yes,
+            yes: self.yes && other.yes,
         }
     }
 
     fn to_slot(self) -> u32 {
-        if self.yes { 1 } else { 0 }
+        u32::from(self.yes)
     }
 
     fn from_slot(number: u32) -> YesNo {
@@ -41,11 +39,12 @@ impl Tally for YesNo {
     }
 }
 
+// The count that stands for a number of ways.
 fn capped(number: u32) -> Count
     ensures { result ≡ counted number }
 {
     Count {
-        value: number.min(MAX_COUNT),
+        value: number.min(u32::from(u16::MAX)),
     }
 }
 
@@ -71,7 +70,7 @@ impl Tally for Count {
     }
 
     fn to_slot(self) -> u32 {
-        self.value
+        self.number()
     }
 
     fn from_slot(number: u32) -> Count {
@@ -84,8 +83,7 @@ impl YesNo {
     pub fn is_yes(self) -> bool
         ensures { result ≡ self.yes }
     {
-        let YesNo { yes } = self;
-        yes
+        self.yes
     }
 }
 
@@ -94,7 +92,6 @@ impl Count {
     pub fn number(self) -> u32
         ensures { result ≡ self.value }
     {
-        let Count { value, .. } = self;
-        value
+        self.value
     }
 }

@@ -22,6 +22,7 @@ pub trait Tally: Copy {
     fn times(self, other: Self) -> Self
         ensures { result ≡ ring.times self other };
 
+    // Not a `From`, as `from_slot` is not: which numbers stand for tallies is a law of this trait.
     fn to_slot(self) -> u32
         ensures { result ≡ slot self };
 

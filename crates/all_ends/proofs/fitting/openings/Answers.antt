@@ -1,14 +1,16 @@
-use Rattle.std.proofs.Common.{ℕ, ◌+◌, sym, ◌∙◌, subst}
-use Rattle.pattern.proofs.Counting.{Counted, counted_none, counted_one, counted_skip}
+use Rattle.std.proofs.Common.{rules, drop, arith, ◌∙◌}
+use borrow.Author.Tests.{tests}
+use Rattle.std.proofs.lemmas.Iterator.{YieldsList-from_slice}
+use Rattle.std.proofs.lemmas.Iterator.Adapters.{YieldsList-from_skip}
+use Rattle.std.proofs.lemmas.Iterator.Consumers.{YieldsList-from_filter, count_from_yields_List}
+use Rattle.std.proofs.lemmas.List.Sums.{length-filter}
+use Rattle.pattern.specs.Rows.{seat}
+use Rattle.pattern.proofs.SeatLists.{count_fifteen}
 use Rattle.all_ends.specs.Ends.{to_open}
 use Rattle.all_ends.proofs.fitting.openings.Goals as goal
-use Rattle.all_ends.proofs.fitting.openings.Goals.{then-is_to_open, else-is_to_open}
 
-pub loop-i-init : goal.loop-i-init
-loop-i-init c = counted_none to_open c.args.rows.now
-
-pub loop-i-preserved : goal.loop-i-preserved
-loop-i-preserved c = elim c.if-is_to_open.branch [
-  | then-is_to_open w ↦ subst (λ (n : ℕ). Counted to_open c.args.rows.now (c.loop-i.i + 1) n) (sym w.number-is) (counted_one to_open c.args.rows.now c.loop-i.i c.loop-i.number c.loop-i-test.true c.loop-i.invariant (sym c.is_to_open.ensures ∙ w.if-is_to_open.true))
-  | else-is_to_open w ↦ subst (λ (n : ℕ). Counted to_open c.args.rows.now (c.loop-i.i + 1) n) (sym w.number-is) (counted_skip to_open c.args.rows.now c.loop-i.i c.loop-i.number c.loop-i-test.true c.loop-i.invariant (sym c.is_to_open.ensures ∙ w.if-is_to_open.false))
-]
+pub returns-clause-value : goal.returns-clause-value
+returns-clause-value c =
+    count_from_yields_List _ _ c.count.ensures.ran
+    (YieldsList-from_filter _ (λ x. to_open (seat x)) (YieldsList-from_skip 1 (YieldsList-from_slice c.args.rows.now (search rules)) (search rules)) c.filter.ensures.closure (λ x b q k. search (rules, tests)))
+    ∙ length-filter (λ x. to_open (seat x)) (drop 1 c.args.rows.now) ∙ count_fifteen to_open c.args.rows.now (omega arith)

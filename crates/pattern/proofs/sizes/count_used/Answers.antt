@@ -1,13 +1,15 @@
-use Rattle.std.proofs.Common.{ℕ, ◌+◌, sym, subst}
-use Rattle.pattern.proofs.Counting.{Counted, counted_none, counted_one, counted_skip}
+use Rattle.std.proofs.Common.{rules, drop, ◌∙◌, arith}
+use borrow.Author.Tests.{tests}
+use Rattle.std.proofs.lemmas.Iterator.{YieldsList-from_slice}
+use Rattle.std.proofs.lemmas.Iterator.Adapters.{YieldsList-from_skip}
+use Rattle.std.proofs.lemmas.Iterator.Consumers.{YieldsList-from_filter, count_from_yields_List}
+use Rattle.std.proofs.lemmas.List.Sums.{length-filter}
+use Rattle.pattern.specs.Rows.{Seat, seat}
+use Rattle.pattern.proofs.SeatLists.{count_fifteen}
 use Rattle.pattern.proofs.sizes.count_used.Goals as goal
-use Rattle.pattern.proofs.sizes.count_used.Goals.{then-rows-i, else-rows-i}
 
-pub loop-i-init : goal.loop-i-init
-loop-i-init c = counted_none (λ r. r.used) c.args.rows.now
-
-pub loop-i-preserved : goal.loop-i-preserved
-loop-i-preserved c = elim c.if-rows-i.branch [
-  | then-rows-i w ↦ subst (λ (n : ℕ). Counted (λ r. r.used) c.args.rows.now (c.loop-i.i + 1) n) (sym w.number-is) (counted_one (λ r. r.used) c.args.rows.now c.loop-i.i c.loop-i.number c.loop-i-test.true c.loop-i.invariant w.if-rows-i.true)
-  | else-rows-i w ↦ subst (λ (n : ℕ). Counted (λ r. r.used) c.args.rows.now (c.loop-i.i + 1) n) (sym w.number-is) (counted_skip (λ r. r.used) c.args.rows.now c.loop-i.i c.loop-i.number c.loop-i-test.true c.loop-i.invariant w.if-rows-i.false)
-]
+pub returns-clause-value : goal.returns-clause-value
+returns-clause-value c =
+    count_from_yields_List _ _ c.count.ensures.ran
+    (YieldsList-from_filter _ (λ x. (seat x).used) (YieldsList-from_skip 1 (YieldsList-from_slice c.args.rows.now (search rules)) (search rules)) c.filter.ensures.closure (λ x b q k. search (rules, tests)))
+    ∙ length-filter (λ x. (seat x).used) (drop 1 c.args.rows.now) ∙ count_fifteen (λ (s : Seat). s.used) c.args.rows.now (omega arith)

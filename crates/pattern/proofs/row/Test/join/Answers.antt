@@ -3,9 +3,5 @@ use Rattle.pattern.specs.Tests.{JoinTold}
 use Rattle.pattern.proofs.Joined.{join_told}
 use Rattle.pattern.proofs.row.Test.join.Goals as goal
 
-pub returns : goal.returns
-returns c =
-    record {
-      value = c.narrower.ensures;
-      told = subst (JoinTold c.args.self c.args.other) (sym c.narrower.ensures) (join_told c.args.self c.args.other);
-    }
+pub returns-clause-told : goal.returns-clause-told
+returns-clause-told c = subst (JoinTold c.args.self c.args.other) (sym c.narrower.ensures) (join_told c.args.self c.args.other)
