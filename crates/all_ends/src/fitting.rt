@@ -22,7 +22,7 @@ fn is_to_open(row: Option<Row>) -> bool
     row.is_some_and(|row| widens(row.axis))
 }
 
-// How many rows go by following or preceding.
+// How many rows go by following or preceding. One chain, as those that count a pattern's rows.
 fn openings(rows: &[Option<Row>; 16]) -> usize
     ensures value { result ≡ how_many to_open (seats rows.now) }
     ensures bound { result ≤ 15 }

@@ -1,5 +1,5 @@
 -- Labels and names are inverse to each other.
-use Rattle.std.proofs.Common.{◌≡◌, ℕ, zero, suc, ◌+◌, ◌-◌, ◌<◌, ◌≤◌, true, false, List, [], ◌∷◌, length, get_or, take, drop, Some, None, Option, IfSome, Bor, sym, refl, ap, ◌∙◌, subst, inl, inr, add-one, arith, rules}
+use Rattle.std.proofs.Common.{◌⊎◌, ◌≡◌, ℕ, zero, suc, ◌+◌, ◌-◌, ◌<◌, ◌≤◌, true, false, List, [], ◌∷◌, length, get_or, take, drop, Some, None, Option, IfSome, Bor, sym, refl, ap, ◌∙◌, subst, inl, inr, add-one, arith, rules}
 use Rattle.std.specs.List.{slice_get}
 use Rattle.std.specs.Option.{option_map}
 use Rattle.std.specs.Str.{bytes_eq}
@@ -94,12 +94,23 @@ module _ (block : List ℕ) (n : ℕ) where
         λ j h e. f.2 j h (sym (getD_listed block n j (omega (arith, h, f.0))) ∙ e),
       )
 
+  pub listed_no_name : (l : ℕ) → (l ≡ 0) ⊎ (n < l) → name_of (listed block n) l ≡ None
+  listed_no_name zero h = refl
+  listed_no_name (suc k) (inl e) = absurd (omega (arith, e))
+  listed_no_name (suc k) (inr h) = slice_get_past (listed block n) k (omega (arith, h, length_listed block n))
+
+  pub listed_name : (l : ℕ) → (l ≡ 0 → ⊥) → l ≤ n → name_of (listed block n) l ≡ Some (name_at block (l - 1))
+  listed_name zero f h = absurd (f refl)
+  listed_name (suc k) f h =
+      let z : suc k - 1 ≡ k = omega arith in
+      slice_get-get_or (listed block n) k [] (omega (arith, h, length_listed block n)) ∙ ap Some (getD_listed block n k (omega (arith, h)) ∙ ap (name_at block) (sym z))
+
 pub name_of_later : (names : List (List ℕ)) (l : ℕ) → 1 ≤ l → name_of names l ≡ slice_get names (l - 1)
 name_of_later names zero h = absurd (omega arith)
 name_of_later names (suc k) h = let z : suc k - 1 ≡ k = omega arith in rw z refl
 
 -- a part is known by where it begins and by its own length
-part_by_length : (xs ys : List ℕ) (n : ℕ) → ys ≡ take n xs → ys ≡ take (length ys) xs
+pub part_by_length : (xs ys : List ℕ) (n : ℕ) → ys ≡ take n xs → ys ≡ take (length ys) xs
 part_by_length xs ys n e =
     let P : List ℕ → Type 0 = λ zs. zs ≡ take (length zs) xs in
     subst P (sym e) (same_lists _ _ (search (rules, places)) (λ k d h. grind (arith, places)))

@@ -14,7 +14,7 @@ use crate::names::{Names, split_entry};
 use refusal::{Cause, Refusal};
 
 impl<'a> Entries<'a> {
-    // The `count` entries of a block that has nothing behind them.
+    // The `count` entries of a block that has nothing behind them. That they are those of this block no type can know.
     pub(crate) fn read(block: &'a [u8], count: u16) -> Result<Entries<'a>, Refusal>
         requires { head_size ≤ length block.now }
         ensures same { IfOk result (λ e. (e.block.now ≡ block.now) × (e.count ≡ count)) }

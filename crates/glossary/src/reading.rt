@@ -14,6 +14,7 @@ fn judge(block: &[u8]) -> Result<Entries<'_>, Refusal>
     ensures judged { Judged block.now (result_err result) }
     ensures same { IfOk result (λ e. (e.block.now ≡ block.now) × (e.count ≡ count_in block.now)) }
 {
+    // One check for both ends of the size, after which the first byte is there.
     if !(HEAD_SIZE..=MAX_BLOCK).contains(&block.len()) {
         return Err(Cause::BlockSize.into());
     }

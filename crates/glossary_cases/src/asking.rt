@@ -5,7 +5,8 @@ use refusal::Refusal;
 use std::process::Abort;
 use std::test::Fail;
 
-// The answer is a refusal with that number at that position.
+// The answer is a refusal with that number at that position. Where tests need memory too they hand on the heap beside `rt`, of which they ask only
+// that it stops.
 pub(crate) fn refused<T: Drop>(
     rt: &impl Abort,
     answer: Result<T, Refusal>,

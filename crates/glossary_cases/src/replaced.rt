@@ -14,7 +14,7 @@ fn replace(names: &mut Vec<[u8; 4]>, place: usize, name: [u8; 4]) -> Result<(), 
     Ok(())
 }
 
-// The names are refused with that number at that position.
+// The names are refused with that number at that position. The number, as in `refused`.
 fn both_refused(
     rt: &impl Abort,
     heap: Global,

@@ -51,7 +51,7 @@ pub fn listing(heap: Global, block: &[u8]) -> Result<Vec<u8>, Refusal>
     Ok(describe(heap, &glossary, block.len())?)
 }
 
-// What is wrong with a list of names, one a line.
+// What is wrong with a list of names, one a line. A type with `Display` would only move this match.
 pub fn complaint(heap: Global, refusal: Refusal) -> Result<String, AllocError>
     ensures { IfOk result (λ s. string_bytes s ≡ complaint_of refusal) }
 {

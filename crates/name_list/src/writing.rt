@@ -10,7 +10,7 @@ use glossary::{Glossary, MAX_NAMES, is_name};
 use refusal::{Cause, Refusal};
 use std::alloc::{AllocError, Global};
 
-// The first of the names that is none.
+// The first of the names that is none. One call of the library, as for the entries of a block: one function over any iterator would be longer than both.
 fn first_bad(names: &[&[u8]]) -> Option<usize>
     ensures { result ≡ position (λ name. not (good_name name.now)) names.now }
 {

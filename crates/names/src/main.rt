@@ -4,7 +4,7 @@
 
 use anyhow::anyhow;
 use name_list::{complaint, lines, listing, write_block};
-use refusal::Refusal;
+use refusal::{Cause, Refusal};
 use std::alloc::Global;
 use std::fs;
 use std::io::{Read, Write};
@@ -12,11 +12,12 @@ use std::process::ExitCode;
 
 const FILE: &str = "names.glo";
 
-// What the program tells of a refusal. A program's errors are text, as the library's `anyhow` has it.
+// What the program tells of a refusal, where `?` alone would tell the reply and not the line of the list. A program's errors are text, as `anyhow` has
+// it.
 fn told(heap: Global, refusal: Refusal) -> anyhow::Error {
     match complaint(heap, refusal) {
         Ok(text) => anyhow!("{text}"),
-        Err(_) => anyhow!("no memory is left"),
+        Err(_) => anyhow!("{}", Cause::NoMemory),
     }
 }
 

@@ -23,20 +23,20 @@ each_redirected z w To (Some r) (Some q) low k e = k r q e
 
 -- the first k rows are hung anew
 abbrev pub Rehung : ℕ → ℕ → List (Option Row) → ℕ → List (Option Row) → Type 0
-Rehung z w xs k items = (length items ≡ 16) × (seats items ≡ map (redirected z w) (take k (seats xs)) ++ drop k (seats xs))
+Rehung z w xs k items = (length items ≡ length xs) × (seats items ≡ map (redirected z w) (take k (seats xs)) ++ drop k (seats xs))
 
-pub rehung_more : (z w k : ℕ) (xs items : List (Option Row)) (o : Option Row) → length xs ≡ 16 → k < 16 → Rehung z w xs k items → seat o ≡ redirected z w (seat (slice_index_or items k None)) → Rehung z w xs (k + 1) (set items k o)
-rehung_more z w k xs items o lx h (li, inv) e =
-    let a : length (seats items) ≡ 16 = seats_long items ∙ li in
-    let b : length (seats xs) ≡ 16 = seats_long xs ∙ lx in (
+pub rehung_more : (z w k : ℕ) (xs items : List (Option Row)) (o : Option Row) → k < length xs → Rehung z w xs k items → seat o ≡ redirected z w (seat (slice_index_or items k None)) → Rehung z w xs (k + 1) (set items k o)
+rehung_more z w k xs items o h (li, inv) e =
+    let a : length (seats items) ≡ length xs = seats_long items ∙ li in
+    let b : length (seats xs) ≡ length xs = seats_long xs in (
       length-set items k o ∙ li,
       seats_set items k o ∙ ap (set (seats items) k) (e ∙ ap (redirected z w) (sym (row_seats items k)))
           ∙ map_over_more (redirected z w) (seats xs) (seats items) k (row (seats items) k) (omega arith) inv (get_or_default (seats items) k top (row (seats items) k) (omega arith)),
     )
 
-pub rehung_all : (z w k : ℕ) (xs items : List (Option Row)) → length xs ≡ 16 → 16 ≤ k → Rehung z w xs k items → seats items ≡ map (redirected z w) (seats xs)
-rehung_all z w k xs items lx h (li, inv) =
-    let b : length (seats xs) ≡ 16 = seats_long xs ∙ lx in
+pub rehung_all : (z w k : ℕ) (xs items : List (Option Row)) → length xs ≤ k → Rehung z w xs k items → seats items ≡ map (redirected z w) (seats xs)
+rehung_all z w k xs items h (li, inv) =
+    let b : length (seats xs) ≡ length xs = seats_long xs in
     inv ∙ ap (λ l. map (redirected z w) l ++ drop k (seats xs)) (take_all k (seats xs) (omega arith))
     ∙ ap (λ l. map (redirected z w) (seats xs) ++ l) (drop_all k (seats xs) (omega arith)) ∙ append-nil (map (redirected z w) (seats xs))
 

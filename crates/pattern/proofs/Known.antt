@@ -6,15 +6,16 @@ use Rattle.std.proofs.lemmas.Bool.{cases_lt, both_ways, or_right}
 use Rattle.record.specs.declared.axis.Step.{Step}
 use Rattle.record.specs.declared.axis.Axis.{Axis}
 use Rattle.record.specs.declared.axis.Axis.TheVariants.{Along}
+use Rattle.record.specs.declared.rules.Move.{Move}
 use Rattle.record.specs.declared.rules.Move.TheVariants.{Up, Join, Between}
-use Rattle.pattern.specs.Rows.{Seat, seat, seats, row, hung, rehung, second, live, merged_row, MergedInto, Merged, MovedTo, DroppedBy}
+use Rattle.pattern.specs.Rows.{Seat, seat, seats, row, has_root, hung, rehung, second, rooted, live, merged_row, MergedInto, Merged, MovedTo, moved_output, DroppedBy}
 use Rattle.pattern.specs.Tests.{joined}
 use Rattle.pattern.specs.declared.inner.Inner.{Inner}
 use Rattle.pattern.specs.declared.inner.Deep.{Deep}
 use Rattle.pattern.specs.declared.row.Row.{Row}
 use Rattle.pattern.specs.declared.row.Test.{Test}
 use Rattle.pattern.proofs.MergedRows.{up_apart}
-use Rattle.pattern.proofs.Moved.{w_z, hung_used, hung_test}
+use Rattle.pattern.proofs.Moved.{w_z, hung_used, hung_test, moved_top, moved_rooted, moved_live}
 use Rattle.pattern.proofs.SeatLists.{row_where, seats_set, seats_long}
 
 -- a row in an array that was found there
@@ -140,3 +141,13 @@ module _ (d : Deep) (len : length d.inner.pattern.rows ≡ 16) where
 
   pub no_join : (a : Step) → joined d.over.test i.row.test ≡ None → DroppedBy rows i.z (Join a)
   no_join a e = ap₂ joined (ap (λ w. (row rows w).test) second_is ∙ ap (λ (s : Seat). s.test) (there xs i.upper.up d.over d.top)) (ap (λ (s : Seat). s.test) (at_z i len)) ∙ e
+
+  -- what is left is a pattern again
+  pub left : (m : Move) (rs' : List Seat) → MovedTo rows i.z m rs' → (has_root rs' ≡ true) × ((rooted rs' ≡ true) × (live rs' (moved_output rows i.z m i.pattern.output) ≡ true))
+  left m rs' to = (
+    moved_top rows (whole i len) i.pattern.ok i.z i.low (high i len) (used i len) below_up m rs' to i.pattern.root,
+    (
+      moved_rooted rows (whole i len) i.pattern.ok i.z i.low (high i len) (used i len) below_up m rs' to,
+      moved_live rows (whole i len) i.pattern.ok i.z i.low (high i len) (used i len) below_up m rs' to i.pattern.output i.pattern.shown,
+    ),
+  )

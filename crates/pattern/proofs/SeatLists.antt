@@ -1,9 +1,9 @@
 -- The rows of an array, as they stand in it and as they are spoken of.
-use Rattle.std.proofs.Common.{◌≡◌, ℕ, zero, suc, ◌+◌, ◌≤◌, Bool, true, false, cond, ◌&&◌, List, [], ◌∷◌, map, length, drop, set, None, Option, sym, refl, ap, ◌∙◌, ap₂, arith, slice_index_or, count_by}
+use Rattle.std.proofs.Common.{◌≡◌, ℕ, zero, suc, ◌+◌, Bool, true, false, cond, ◌&&◌, List, ◌∷◌, map, length, drop, set, None, Option, sym, refl, ap, ◌∙◌, ap₂, arith, slice_index_or, count_by}
 use Rattle.std.specs.List.{list_all, range_with_len}
 use Rattle.std.proofs.Math.ListN.{get_or-map}
 use Rattle.std.proofs.Math.Seq.{drop-cons}
-use Rattle.std.proofs.lemmas.List.{map-set, length-map}
+use Rattle.std.proofs.lemmas.List.{map-set, length-map, drop_all}
 use Rattle.std.proofs.lemmas.List.Recursion.{is_count_by}
 use Rattle.record.specs.Moves.{bit, count}
 use Rattle.ways.specs.Ways.{all_rows}
@@ -26,16 +26,10 @@ seats_long xs = length-map xs seat
 
 -- what is asked of each of the fifteen
 
-ends_here : {A : Type 0} (a : ℕ) (xs : List A) → length xs ≤ a → drop a xs ≡ []
-ends_here zero [] h = refl
-ends_here zero (x ∷ xs) h = absurd (omega arith)
-ends_here (suc a) [] h = refl
-ends_here (suc a) (x ∷ xs) h = ends_here a xs (omega arith)
-
 module _ (f : Seat → Bool) (xs : List (Option Row)) where
   all_from : (c a : ℕ) → length xs ≡ a + c → list_all (λ x. f (seat x)) (drop a xs) ≡ all_rows (upto a c) (λ i. f (row (seats xs) i))
   unfolding all_rows
-  all_from zero a e = ap (list_all (λ x. f (seat x))) (ends_here a xs (omega arith))
+  all_from zero a e = ap (list_all (λ x. f (seat x))) (drop_all a xs (omega arith))
   all_from (suc c) a e =
       ap (list_all (λ x. f (seat x))) (drop-cons xs a None (omega arith))
       ∙ ap₂ ◌&&◌ (ap f (sym (row_seats xs a))) (all_from c (suc a) (omega arith))
@@ -44,7 +38,7 @@ module _ (f : Seat → Bool) (xs : List (Option Row)) where
   all_fifteen e = all_from 15 1 e
 
   asked_from : (c a : ℕ) → length xs ≡ a + c → map (λ x. f (seat x)) (drop a xs) ≡ map (λ i. f (row (seats xs) i)) (upto a c)
-  asked_from zero a e = ap (map (λ x. f (seat x))) (ends_here a xs (omega arith))
+  asked_from zero a e = ap (map (λ x. f (seat x))) (drop_all a xs (omega arith))
   asked_from (suc c) a e =
       ap (map (λ x. f (seat x))) (drop-cons xs a None (omega arith))
       ∙ ap₂ {C = List Bool} (λ b bs. b ∷ bs) (ap f (sym (row_seats xs a))) (asked_from c (suc a) (omega arith))

@@ -67,7 +67,7 @@ sift_lt (s ∷ L) f r i e = elim (cases_Bool (f s)) [
   | inr n ↦ rw n (let h = sift_le L f in omega arith)
 ]
 
--- the numbers from a on
+-- the numbers from a on; the library's `range_with_len` goes on at a + 1, which does not compute where suc a does
 abbrev pub upto : ℕ → ℕ → List ℕ
 upto a zero = []
 upto a (suc n) = a ∷ upto (suc a) n
@@ -100,11 +100,6 @@ height up zero r = 0
 height up (suc k) r = cond (eqb r 0) 0 (suc (height up k (up r)))
 
 module _ (used : ℕ → Bool) (up : ℕ → ℕ) where
-  climbs_root : (k : ℕ) → climbs used up k 0 ≡ true
-  unfolding climbs
-  climbs_root zero = refl
-  climbs_root (suc k) = refl
-
   climbs_on : (k r : ℕ) → r ≢ 0 → climbs used up (suc k) r ≡ true → (used r ≡ true) × (climbs used up k (up r) ≡ true)
   unfolding climbs
   climbs_on k r n e = and_parts _ _ (rw (ne_eqb r 0 n) at e)

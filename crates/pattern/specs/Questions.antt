@@ -13,7 +13,7 @@ use Rattle.pattern.specs.declared.base.Pattern.{Pattern}
 abbrev pub label_at : List Place → ℕ → ℕ
 label_at places i = (place places i).label
 
--- those of the list that pass
+-- those of the list that pass; the library's `filter`, written out since every pattern's rows are made by it and unfold at an element
 unfoldable pub sift : List ℕ → (ℕ → Bool) → List ℕ
 sift [] f = []
 sift (r ∷ rs) f = cond (f r) (r ∷ sift rs f) (sift rs f)

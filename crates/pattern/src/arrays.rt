@@ -26,7 +26,8 @@ fn rehang(rows: [Option<Row>; 16], z: u8, w: u8) -> [Option<Row>; 16]
     out
 }
 
-// Row z goes into row w, which is in use and has the test then.
+// Row z goes into row w, which is in use and has the test then. Merging goes into the up-row and joining into the row over that, so that both are numbers
+// here and no struct of the two.
 pub(crate) fn merge_into(rows: [Option<Row>; 16], z: u8, w: u8, test: Test) -> [Option<Row>; 16]
     requires low { 1 ≤ z }
     requires high { z < 16 }

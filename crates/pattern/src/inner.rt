@@ -8,13 +8,14 @@ use crate::row::Row;
 use std::error::Error;
 use std::fmt;
 
-// There is no such row in use below row 0.
+// The pattern has no rows as the change needs them: the row that is named is not in use below row 0, or hangs right under row 0 where it may not,
+// or the two rows to come are not free. One error for all, since a caller asks only whether the numbers fit the pattern.
 #[derive(Clone, Copy, Debug, PartialEq, Eq)]
 pub struct NoSuchRow;
 
 impl fmt::Display for NoSuchRow {
     fn fmt<W: fmt::Write>(&self, f: &mut fmt::Formatter<W>) -> fmt::Result {
-        f.write_str("the pattern has no such row")
+        f.write_str("the pattern has no rows as the change needs them")
     }
 }
 
@@ -42,6 +43,7 @@ pub(crate) struct Deep {
 }
 
 impl Pattern {
+    // Each public contract says when there is no such row, in the row's own words, and not by these two, which callers do not see.
     pub(crate) fn inner(self, z: u8) -> Result<Inner, NoSuchRow>
         ensures { MatchResult result (λ i. (i.pattern ≡ self) × (i.z ≡ z) × (inner (seats self.rows) z ≡ true)) (λ _. inner (seats self.rows) z ≡ false) }
     {

@@ -20,6 +20,7 @@ fn is_ahead(row: Option<Row>) -> bool
     row.is_none_or(|row| goes_along(row.axis))
 }
 
+// One chain: with the test as a parameter it would be the library's `all` by another name.
 fn all_go_along(rows: &[Option<Row>; 16]) -> bool
     ensures { result ≡ all_along (seats rows.now) }
 {

@@ -5,7 +5,8 @@ ghost use Rattle.pattern.specs.Rows.{seats, row, has_root, climbs, well_hung, ro
 use crate::base::Pattern;
 use crate::row::Row;
 
-// The row with that number, if it is in use.
+// The row with that number, if it is in use. This and others take the plain array, as `from_rows` does from callers, and speak of its `seats`: a type around
+// the array would be one more step to each row.
 pub fn row_at(rows: &[Option<Row>; 16], r: u8) -> Option<Row>
     ensures { result ≡ slice_index_or rows.now r None }
 {
@@ -37,6 +38,7 @@ fn is_well_hung(rows: &[Option<Row>; 16], r: u8) -> bool
     row_at(rows, r).is_none() || leads_to_root(rows, r)
 }
 
+// By numbers, as the definition climbs from a row's number.
 fn is_rooted(rows: &[Option<Row>; 16]) -> bool
     ensures { result ≡ rooted (seats rows.now) }
 {

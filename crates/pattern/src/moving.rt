@@ -10,6 +10,7 @@ use crate::inner::{Deep, Inner, NoSuchRow};
 use crate::row::Row;
 use record::{Axis, Move, Step};
 
+// Each function here writes its pattern whole, since a struct with ghost fields takes no `..`, and says what becomes of the output, which a join moves.
 impl Inner {
     // The row goes by another axis.
     fn by_axis(self, axis: Axis) -> Pattern
@@ -63,7 +64,8 @@ impl Deep {
         }
     }
 
-    // The row goes into the up-row of its up-row, under which that one then hangs by the step.
+    // The row goes into the up-row of its up-row, under which that one then hangs by the step. Written out beside `merged`, since a row is changed first and
+    // the target is another, so that they share the two calls and no fact.
     fn joined_up(self, step: Step) -> Option<Pattern>
         ensures { MoveOf self.inner.pattern self.inner.z (Join step) result }
     {

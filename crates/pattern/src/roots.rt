@@ -26,6 +26,7 @@ fn is_named(row: Option<Row>) -> bool
     !asks_for_root(row)
 }
 
+// One chain: with the test as a parameter it would be the library's `all` by another name.
 fn all_named(rows: &[Option<Row>; 16]) -> bool
     ensures { result ≡ all_rows fifteen (λ i. named (row (seats rows.now) i)) }
 {

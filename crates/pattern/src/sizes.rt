@@ -6,7 +6,7 @@ ghost use Rattle.pattern.specs.Sizes.{how_many, in_use, at_top, path_rows};
 use crate::base::Pattern;
 use crate::row::Row;
 
-// The rows in use.
+// The rows in use. One chain, as the next one: with the test as a parameter it would be the library's `filter` and `count` by another name.
 fn count_used(rows: &[Option<Row>; 16]) -> usize
     ensures value { result ≡ in_use (seats rows.now) }
     ensures bound { result ≤ 15 }

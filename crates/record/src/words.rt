@@ -5,7 +5,7 @@ ghost use Rattle.record.specs.Words.{word_of};
 
 use crate::axis::{Axis, Reach, Step};
 
-// All thirteen axes.
+// All thirteen axes, by hand: no derive lists the values of an enum.
 const AXES: [Axis; 13] = [
     Axis::Along(Step::Child),
     Axis::Along(Step::Descendant),

@@ -33,7 +33,7 @@ pub enum Cause {
 }
 
 impl Cause {
-    // The number that stands for the cause in every reply.
+    // The number that stands for the cause in every reply. A method and no `From`: `u8::from(cause)` would not say which number it is.
     pub fn number(self) -> u8
         ensures { result ≡ number_of self }
     {

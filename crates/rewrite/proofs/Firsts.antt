@@ -31,7 +31,7 @@ module _ {A : Type 0} (f : ℕ → Option A) where
   unfolding first_some
   stop r rs t e = rw (first_some, e) refl
 
-  all_quiet : (rs : List ℕ) → ((r : ℕ) → In r rs → f r ≡ None) → first_some f rs ≡ None
+  pub all_quiet : (rs : List ℕ) → ((r : ℕ) → In r rs → f r ≡ None) → first_some f rs ≡ None
   unfolding first_some
   all_quiet [] h = refl
   all_quiet (r ∷ rs) h = skip r rs (h r (inl refl)) ∙ all_quiet rs (λ s i. h s (inr i))

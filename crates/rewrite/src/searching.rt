@@ -23,7 +23,8 @@ fn first_want<F: Fn(u8, Row) -> Option<Turn>>(rows: &[Option<Row>; 16], want: F)
     (1..16).find_map(|i| want(i, rows[usize::from(i)]?))
 }
 
-// What the rows ask for: to be expanded, then to drop the pattern, then to be moved by the table.
+// What the rows ask for: to be expanded, then to drop the pattern, then to be moved by the table. Apart from
+// `next_turn`, so that what it tells is proved once and not for each way out.
 fn turn_in(rows: &[Option<Row>; 16]) -> Turn
     ensures { result ≡ turn_of (seats rows.now) }
 {

@@ -9,7 +9,7 @@ use refusal::Refusal;
 use std::alloc::Global;
 use std::array;
 
-// The rows of a path from row 1 on, each with its up-row, its axis and its test, and the output.
+// The rows of a path from row 1 on, each with its up-row, its axis and its test, and the output. Tuples, so that a question stands on one line.
 pub type Path<'a> = (&'a [(u8, Axis, Test)], u8);
 
 // The pattern of a path; none where the rows make none.

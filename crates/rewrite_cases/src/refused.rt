@@ -7,7 +7,7 @@ use std::alloc::Global;
 use std::process::Abort;
 use std::test::Fail;
 
-// The number and not the cause: the number is what a user reads, and a test keeps it.
+// As in the tests of glossaries: a crate of tests lends nothing to another. The number and not the cause: the number is what a user reads, and a test keeps it.
 fn refused(rt: &impl Abort, heap: Global, paths: &[Path], number: u8) -> Result<(), Fail> {
     let Err(refusal) = counts(heap, paths) else {
         return Err("is not refused".into());

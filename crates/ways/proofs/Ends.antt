@@ -35,6 +35,7 @@ heavy_le (Against s) m = omega arith
 heavy_le Itself m = omega arith
 heavy_le (Wide x) m = omega arith
 
+-- the library's `sum_by` is a fold from the left, which does not unfold at an element
 abbrev pub lsum : (ℕ → ℕ) → List ℕ → ℕ
 lsum f [] = 0
 lsum f (r ∷ rs) = f r + lsum f rs

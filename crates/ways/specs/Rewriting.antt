@@ -66,6 +66,7 @@ unfoldable pub find_in : {T : Type 0} → Weighted T → List ℕ → Todo
 find_in P [] = Done
 find_in P (r ∷ rs) = judge (P.axis r) (P.up r == 0) (P.axis (P.up r)) r (find_in P rs)
 
+-- the library's `flat_map`, written out since laws rest on it and unfold it at an element
 unfoldable pub concat_map : {A B : Type 0} → (A → List B) → List A → List B
 concat_map f [] = []
 concat_map f (x ∷ xs) = f x ++ concat_map f xs
@@ -89,6 +90,7 @@ rewriting S (suc k) P = turn S (λ Q. rewriting S k Q) P (todo_of P)
 abbrev pub NoneBack : {T : Type 0} → Weighted T → Type 0
 NoneBack P = (r : ℕ) → In r P.rows → (s : Step) → P.axis r ≢ Against s
 
+-- the library's `AllByRecursion`, by the word that the laws have for it
 abbrev pub Every : {A : Type 0} → (A → Type 0) → List A → Type 0
 Every F [] = Unit {0}
 Every F (x ∷ xs) = F x × Every F xs

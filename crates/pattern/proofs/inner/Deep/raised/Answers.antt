@@ -1,23 +1,12 @@
 use Rattle.std.proofs.Common.{refl, arith}
 use Rattle.record.specs.declared.rules.Move.TheVariants.{Up}
-use Rattle.pattern.specs.Rows.{seats}
-use Rattle.pattern.proofs.Known.{whole, used, high, below_up, as_up}
-use Rattle.pattern.proofs.Moved.{moved_top, moved_rooted, moved_live}
+use Rattle.pattern.proofs.Known.{as_up, left}
 use Rattle.pattern.proofs.inner.Deep.raised.Goals as goal
-
-pub bounds-rows-inner : goal.bounds-rows-inner
-bounds-rows-inner c = high c.args.self.inner (omega arith)
 
 pub invariant_of-result : goal.invariant_of-result
 invariant_of-result c =
-    let d = c.args.self in
-    let w = whole c.args.self.inner (omega arith) in
-    let m = as_up c.args.self (omega arith) in
-    record {
-      root = moved_top (seats d.inner.pattern.rows) (omega arith) d.inner.pattern.ok d.inner.z d.inner.low (high c.args.self.inner (omega arith)) (used c.args.self.inner (omega arith)) (below_up c.args.self (omega arith)) Up _ m d.inner.pattern.root;
-      ok = moved_rooted (seats d.inner.pattern.rows) (omega arith) d.inner.pattern.ok d.inner.z d.inner.low (high c.args.self.inner (omega arith)) (used c.args.self.inner (omega arith)) (below_up c.args.self (omega arith)) Up _ m;
-      shown = moved_live (seats d.inner.pattern.rows) (omega arith) d.inner.pattern.ok d.inner.z d.inner.low (high c.args.self.inner (omega arith)) (used c.args.self.inner (omega arith)) (below_up c.args.self (omega arith)) Up _ m d.inner.pattern.output d.inner.pattern.shown;
-    }
+    let l = left c.args.self (omega arith) Up _ (as_up c.args.self (omega arith)) in
+    record { root = l.0; ok = l.1.0; shown = l.1.1 }
 
 pub returns : goal.returns
 returns c = (as_up c.args.self (omega arith), refl)

@@ -4,9 +4,6 @@ use Rattle.pattern.proofs.Known.{whole, high, ups, hang_row}
 use Rattle.pattern.proofs.Moved.{hung_used, hung_live, axed_rooted}
 use Rattle.pattern.proofs.inner.Inner.by_axis.Goals as goal
 
-pub bounds-rows-self : goal.bounds-rows-self
-bounds-rows-self c = high c.args.self (omega arith)
-
 pub invariant_of-result : goal.invariant_of-result
 invariant_of-result c =
     let i = c.args.self in

@@ -1,20 +1,14 @@
 use Rattle.std.proofs.Common.{◌≡◌, ℕ, true, cond, eqb, sym, ap, ◌∙◌, subst, arith}
 use Rattle.pattern.specs.Rows.{seats, live}
-use Rattle.pattern.proofs.Known.{whole, used, high, ups, up_high, up_other, up_lives, up_there, tests, into_up, gone_up}
+use Rattle.pattern.proofs.Known.{whole, used, high, ups, up_other, up_lives, tests, into_up, gone_up}
 use Rattle.pattern.proofs.MergedRows.{merged_top, merged_rooted, into_live}
 use Rattle.pattern.proofs.inner.Inner.merged.Goals as goal
 
 pub returns-in_err-test : goal.returns-in_err-test
 returns-in_err-test c = rw c.from_residual.ensures (tests c.args.self (omega arith) ∙ sym c.join.ensures.value ∙ c.in_err-test.was)
 
-pub merge_into-rows-requires : goal.merge_into-rows-requires
-merge_into-rows-requires c = record {
-  low = c.args.self.low;
-  high = high c.args.self (omega arith);
-  within = up_high c.args.self (omega arith);
-  two = up_other c.args.self (omega arith);
-  live = up_there c.args.self (omega arith);
-}
+pub merge_into-rows-requires-clause-two : goal.merge_into-rows-requires-clause-two
+merge_into-rows-requires-clause-two c = up_other c.args.self (omega arith)
 
 pub invariant_of-result : goal.invariant_of-result
 invariant_of-result c =
