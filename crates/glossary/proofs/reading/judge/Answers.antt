@@ -1,13 +1,6 @@
 use Rattle.std.proofs.Common.{Some, refl, ap, inl, inr, rules}
 use Rattle.glossary.proofs.reading.judge.Goals as goal
 
-pub returns-in-Some-clause-judged : goal.returns-in-Some-clause-judged
-returns-in-Some-clause-judged c =
-    let e = c.in_ok-entries.ensures.same in
-    let whole = rw (e.0, e.1, c.from-count.ensures) at c.in_ok-entries.entries.whole in
-    let bad = rw (e.0, e.1, c.from-count.ensures) at c.in-Some.ensures in
-    inr (search rules, inr (whole, inr (search rules, inl (c.in-Some.k, bad, ap Some c.at.ensures))))
-
 pub returns-in-Some-first_repeated-clause-judged : goal.returns-in-Some-first_repeated-clause-judged
 returns-in-Some-first_repeated-clause-judged c =
     let e = c.in_ok-entries.ensures.same in
