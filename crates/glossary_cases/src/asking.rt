@@ -10,7 +10,7 @@ use std::test::Fail;
 pub(crate) fn refused<T: Drop>(
     rt: &impl Abort,
     answer: Result<T, Refusal>,
-    // The number is said as a reply shows it, apart from the names that the code has for it.
+    // The number is said as a reply shows it, apart from the names that the code has for it; so the two are no `Refusal`.
     number: u8,
     position: usize,
 ) -> Result<(), Fail> {

@@ -69,7 +69,8 @@ impl Pattern {
     pub fn from_rows(rows: [Option<Row>; 16], output: u8) -> Option<Pattern>
         ensures { MatchOption result ((has_root (seats rows) && (rooted (seats rows) && live (seats rows) output)) ≡ false) (λ p. (p.rows ≡ rows) × (p.output ≡ output)) }
     {
-        // A pattern can be written down only where its tests are known to have passed, so no `then_some`.
+        // A pattern can be written down only where its tests are known to have passed: so no `then_some`, and no
+        // `then`, since within its closure nothing is known of them.
         if rows[0].is_some() && is_rooted(&rows) && is_live(&rows, output) {
             Some(Pattern { rows, output })
         } else {

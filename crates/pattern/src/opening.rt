@@ -8,7 +8,7 @@ use crate::row::{Row, Test};
 use record::{Axis, Reach};
 
 impl Inner {
-    // The row is reached over the free rows n and n + 1.
+    // The row is reached over the free rows n and n + 1. Written whole, as the patterns of `moving.rt` are, and the output is said here.
     fn spread_over(self, n: u8, aside: Axis) -> Pattern
         requires { free_two (seats self.pattern.rows) n ≡ true }
         ensures { (seats result.rows ≡ spread (seats self.pattern.rows) self.z n (n + 1) aside) × (result.output ≡ self.pattern.output) }

@@ -15,23 +15,13 @@ fn axis_of(rows: &[Option<Row>; 16], r: u8) -> Axis
     row_at(rows, r).map_or(Axis::Along(Step::Child), |row| row.axis)
 }
 
-// The first answer that a row in use gives, from the lowest number on. The search goes by numbers, since a row's number is part of its answer.
+// The first answer that a row in use gives, from the lowest number on. The search goes by numbers, since a row's number is part of its answer,
+// which `enumerate` has only as `usize`.
 fn first_want<F: Fn(u8, Row) -> Option<Turn>>(rows: &[Option<Row>; 16], want: F) -> Option<Turn>
     requires { F.IsAlwaysCallable want }
     ensures { FirstWant rows.now (F.post want) result }
 {
     (1..16).find_map(|i| want(i, rows[usize::from(i)]?))
-}
-
-// What the rows ask for: to be expanded, then to drop the pattern, then to be moved by the table. Apart from
-// `next_turn`, so that what it tells is proved once and not for each way out.
-fn turn_in(rows: &[Option<Row>; 16]) -> Turn
-    ensures { result ≡ turn_of (seats rows.now) }
-{
-    first_want(rows, |i, row| expansion_by(i, row.axis))
-        .or_else(|| first_want(rows, |_, row| stray_by(row.up, row.axis)))
-        .or_else(|| first_want(rows, |i, row| shift_by(i, row.axis, axis_of(rows, row.up))))
-        .unwrap_or(Turn::Kept)
 }
 
 // What is done next with a pattern: the lowest-numbered row is expanded; if there is none, the pattern is dropped where a row right under
@@ -42,5 +32,12 @@ pub fn next_turn(pattern: Pattern) -> Turn
     ensures value { result ≡ turn_of (seats pattern.rows) }
     ensures told { Told pattern result }
 {
-    turn_in(&pattern.rows())
+    let rows = pattern.rows();
+    first_want(&rows, |i, row| expansion_by(i, row.axis))
+        .or_else(|| first_want(&rows, |_, row| stray_by(row.up, row.axis)))
+        .or_else(|| first_want(
+            &rows,
+            |i, row| shift_by(i, row.axis, axis_of(&rows, row.up)),
+        ))
+        .unwrap_or(Turn::Kept)
 }

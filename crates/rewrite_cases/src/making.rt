@@ -9,7 +9,7 @@ use refusal::Refusal;
 use std::alloc::Global;
 use std::array;
 
-// The rows of a path from row 1 on, each with its up-row, its axis and its test, and the output. Tuples, so that a question stands on one line.
+// The rows of a path from row 1 on, each with its up-row, its axis and its test, and the output. Tuples, so that a row of a question stands on one line.
 pub type Path<'a> = (&'a [(u8, Axis, Test)], u8);
 
 // The pattern of a path; none where the rows make none.
@@ -34,7 +34,7 @@ pub fn pattern_of((steps, output): Path) -> Option<Pattern> {
 }
 
 // N rows one under another, each by the axis and to any place.
-pub fn one_under_another<const N: usize>(axis: Axis) -> [(u8, Axis, Test); N]
+pub(crate) fn one_under_another<const N: usize>(axis: Axis) -> [(u8, Axis, Test); N]
     requires { N ≤ 15 }
 {
     array::from_fn(|up| (up as u8, axis, NODE))

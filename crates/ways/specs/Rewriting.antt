@@ -1,4 +1,5 @@
 -- Rewriting: rows that go against a step are moved by the table, until none is left.
+use Rattle.std.specs.List.{AllByRecursion}
 use Rattle.std.specs.Prelude.{◌≡◌, ℕ, zero, suc, Bool, true, false, cond, ◌&&◌, ◌||◌, ◌≢◌, List, [], ◌∷◌, ◌++◌, ◌==◌}
 use Rattle.record.specs.Moves.{table}
 use Rattle.record.specs.declared.axis.Step.{Step}
@@ -92,5 +93,4 @@ NoneBack P = (r : ℕ) → In r P.rows → (s : Step) → P.axis r ≢ Against s
 
 -- the library's `AllByRecursion`, by the word that the laws have for it
 abbrev pub Every : {A : Type 0} → (A → Type 0) → List A → Type 0
-Every F [] = Unit {0}
-Every F (x ∷ xs) = F x × Every F xs
+Every F xs = AllByRecursion F xs

@@ -9,6 +9,7 @@ use Rattle.pattern.proofs.SeatLists.{count_fifteen}
 use Rattle.all_ends.specs.Ends.{to_open}
 use Rattle.all_ends.proofs.fitting.openings.Goals as goal
 
+-- as in `sizes` of `pattern`
 pub returns-clause-value : goal.returns-clause-value
 returns-clause-value c =
     count_from_yields_List _ _ c.count.ensures.ran

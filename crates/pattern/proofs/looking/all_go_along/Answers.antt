@@ -7,7 +7,7 @@ use Rattle.pattern.specs.Rows.{seat, ahead, all_along}
 use Rattle.pattern.proofs.SeatLists.{all_fifteen}
 use Rattle.pattern.proofs.looking.all_go_along.Goals as goal
 
--- as in `all_named` and twice in `sizes`: a lemma over the closure's type would be longer than what it saves
+-- as in `all_named`, twice in `sizes`, and in `openings` of `all_ends`: a lemma over the closure's type would be longer than what it saves
 pub returns : goal.returns
 unfolding all_along
 returns c =
