@@ -10,10 +10,10 @@ use std::alloc::Global;
 use std::array;
 
 // The rows of a path from row 1 on, each with its up-row, its axis and its test, and the output. Tuples, so that a row of a question stands on one line.
-pub type Path<'a> = (&'a [(u8, Axis, Test)], u8);
+pub(crate) type Path<'a> = (&'a [(u8, Axis, Test)], u8);
 
 // The pattern of a path; none where the rows make none.
-pub fn pattern_of((steps, output): Path) -> Option<Pattern> {
+pub(crate) fn pattern_of((steps, output): Path) -> Option<Pattern> {
     if steps.len() > 15 {
         return None;
     }
@@ -41,7 +41,7 @@ pub(crate) fn one_under_another<const N: usize>(axis: Axis) -> [(u8, Axis, Test)
 }
 
 // How many ends the question of these paths has, and how many of them are kept. A path that makes no pattern is left out.
-pub fn counts(heap: Global, paths: &[Path]) -> Result<(usize, usize), Refusal> {
+pub(crate) fn counts(heap: Global, paths: &[Path]) -> Result<(usize, usize), Refusal> {
     let sources: Vec<Pattern> = paths
         .iter()
         .filter_map(|path| pattern_of(*path))
