@@ -1,5 +1,5 @@
 -- Labels and names are inverse to each other.
-use Rattle.std.proofs.Common.{◌⊎◌, ◌≡◌, ℕ, zero, suc, ◌+◌, ◌-◌, ◌<◌, ◌≤◌, true, false, List, [], ◌∷◌, length, get_or, take, drop, Some, None, Option, IfSome, Bor, sym, refl, ap, ◌∙◌, subst, inl, inr, add-one, arith, rules}
+use Rattle.std.proofs.Common.{◌⊎◌, ◌≡◌, ℕ, zero, suc, ◌+◌, ◌-◌, ◌<◌, ◌≤◌, min, true, false, List, [], ◌∷◌, length, get_or, take, drop, Some, None, Option, IfSome, Bor, sym, refl, ap, ◌∙◌, subst, inl, inr, add-one, arith, rules}
 use Rattle.std.specs.List.{slice_get}
 use Rattle.std.specs.Option.{option_map}
 use Rattle.std.specs.Str.{bytes_eq}
@@ -108,6 +108,11 @@ module _ (block : List ℕ) (n : ℕ) where
 pub name_of_later : (names : List (List ℕ)) (l : ℕ) → 1 ≤ l → name_of names l ≡ slice_get names (l - 1)
 name_of_later names zero h = absurd (omega arith)
 name_of_later names (suc k) h = let z : suc k - 1 ≡ k = omega arith in rw z refl
+
+-- a part that is cut off at the end of a list
+pub clamped_part : (xs : List ℕ) (from size f s : ℕ) → f ≡ min from (length xs) → s ≡ min size (length xs - f) → take ((f + s) - f) (drop f xs) ≡ take size (drop from xs)
+clamped_part xs from size f s e g =
+    same_lists _ _ (search (rules, places)) (λ k d h. grind (arith, places))
 
 -- a part is known by where it begins and by its own length
 pub part_by_length : (xs ys : List ℕ) (n : ℕ) → ys ≡ take n xs → ys ≡ take (length ys) xs

@@ -38,6 +38,10 @@ impl<'a> Glossary<'a> {
         ensures value { option_map (λ x. x.now) result ≡ name_of (names_of self.now) label }
         ensures place { IfSome result (λ name. name.now ≡ take (length name.now) (drop (offset_of self.now label) self.now.entries.block.now)) }
     {
+        // A label that there is not takes no walk over the block.
+        if label > self.count() {
+            return None;
+        }
         let k = label.checked_sub(1)?;
         self.names().nth(usize::from(k))
     }
