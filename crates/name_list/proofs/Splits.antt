@@ -1,11 +1,10 @@
 -- A text that is cut into lines at the bytes that end them.
-use Rattle.std.proofs.Common.{◌≡◌, ℕ, zero, suc, ◌-◌, ◌<◌, Bool, true, false, cond, eqb, List, [], ◌∷◌, ◌++◌, length, get_or, sym, refl, ap, ◌∙◌, subst, inl, inr, arith, Bor}
+use Rattle.std.proofs.Common.{◌≡◌, ℕ, zero, suc, ◌-◌, ◌<◌, ◌≢◌, eqb, List, [], ◌∷◌, ◌++◌, length, get_or, Some, None, Option, MatchOption, sym, refl, ap, ◌∙◌, subst, inl, inr, arith, Bor}
 use Rattle.std.specs.List.{flat_map, slice_split, onto_first, AllByRecursion}
+use Rattle.std.specs.Option.{unwrap_or}
 use Rattle.std.proofs.lemmas.Bool.{cases_Bool, eqb-true, eqb-false}
-use Rattle.std.proofs.lemmas.List.{append_cancel_right, flat_map_more, get_or_push, length_push, map_push}
 use Rattle.std.proofs.lemmas.List.Splits.{length-slice_split, slice_split-cons_yes, slice_split-cons_no}
 use Rattle.name_list.specs.Lines.{ended, Plain, LinesOf}
-use Rattle.name_list.specs.Lists.{bytes_of}
 
 -- the parts between the ends of lines
 abbrev pub parts : List ℕ → List (List ℕ)
@@ -41,42 +40,45 @@ plain_parts (b ∷ bs) = elim (cases_Bool (eqb b 10)) [
   | inr e ↦ subst (AllByRecursion Plain) (sym (slice_split-cons_no (λ byte. eqb byte 10) b bs e)) (plain_onto b (parts bs) (eqb-false b 10 e) (plain_parts bs))
 ]
 
-plain_front : (lines : List (List ℕ)) (line : List ℕ) → AllByRecursion Plain (lines ++ line ∷ []) → AllByRecursion Plain lines
-plain_front [] line a = tt
-plain_front (l ∷ ls) line a = (a.0, plain_front ls line a.1)
+-- whether the last part holds anything
+abbrev Filled : List (List ℕ) → Type 0
+Filled lines = 0 < length (get_or lines (length lines - 1) [])
 
-empty_line : (line : List ℕ) → eqb (length line) 0 ≡ true → line ≡ []
-empty_line [] e = refl
-empty_line (b ∷ bs) e = absurd (omega (arith, eqb-true _ _ e))
+filled_behind : (line : List ℕ) (lines : List (List ℕ)) → 0 < length lines → Filled lines → Filled (line ∷ lines)
+filled_behind line [] h f = absurd (omega (arith, h))
+filled_behind line (l ∷ ls) h f =
+    let e : length (line ∷ l ∷ ls) - 1 ≡ suc (length (l ∷ ls) - 1) = omega arith in
+    subst (λ i. 0 < length (get_or (line ∷ l ∷ ls) i [])) (sym e) f
 
--- what stands behind the last end of a line is a line, unless it is empty
-cut_last : (text : List ℕ) (lines : List (List ℕ)) (line : List ℕ) → lines ++ line ∷ [] ≡ parts text → LinesOf (cond (eqb (length line) 0) lines (lines ++ line ∷ [])) text
-cut_last text lines line e =
-    let whole : flat_map ended (lines ++ line ∷ []) ≡ ended text = ap (flat_map ended) e ∙ ended_parts text in
-    let plain : AllByRecursion Plain (lines ++ line ∷ []) = subst (AllByRecursion Plain) (sym e) (plain_parts text) in
-    elim (cases_Bool (eqb (length line) 0)) [
-      | inl z ↦
-          let front : flat_map ended lines ++ (10 ∷ []) ≡ ended text =
-          ap (λ (l : List ℕ). flat_map ended lines ++ ended l) (sym (empty_line line z)) ∙ (flat_map_more ended [] lines line ∙ whole) in
-          rw z (record { whole = inl (append_cancel_right (flat_map ended lines) text (10 ∷ []) front); plain = plain_front lines line plain })
-      | inr z ↦
-          let last : get_or (lines ++ line ∷ []) (length (lines ++ line ∷ []) - 1) [] ≡ line =
-          get_or_push lines line [] _ (omega (arith, length_push lines line)) in
-          let some : 0 < length line = omega (arith, eqb-false _ _ z) in
-          rw z (record { whole = inr (subst (λ (x : List ℕ). 0 < length x) (sym last) some, whole); plain = plain })
+filled_onto : (b : ℕ) (lines : List (List ℕ)) → 0 < length lines → Filled lines → Filled (onto_first b lines)
+filled_onto b [] h f = absurd (omega (arith, h))
+filled_onto b (line ∷ []) h f = omega arith
+filled_onto b (line ∷ l ∷ ls) h f =
+    let e : length (line ∷ l ∷ ls) - 1 ≡ suc (length (l ∷ ls) - 1) = omega arith in
+    filled_behind (b ∷ line) (l ∷ ls) (omega arith) (subst (λ i. 0 < length (get_or (line ∷ l ∷ ls) i [])) e f)
+
+-- what stands behind the last end of a line is empty only where the text ends with it
+last_filled : (b : ℕ) (bs : List ℕ) → ((front : List ℕ) → b ∷ bs ≢ front ++ (10 ∷ [])) → Filled (parts (b ∷ bs))
+last_filled b [] f = elim (cases_Bool (eqb b 10)) [
+  | inl e ↦ absurd (f [] (ap (λ (x : ℕ). x ∷ []) (eqb-true b 10 e)))
+  | inr e ↦ subst Filled (sym (slice_split-cons_no (λ byte. eqb byte 10) b [] e)) (filled_onto_one b)
+]
+  where
+    filled_onto_one : (b : ℕ) → Filled ((b ∷ []) ∷ [])
+    filled_onto_one b = omega arith
+last_filled b (c ∷ cs) f =
+    let rest = last_filled c cs (λ front e. f (b ∷ front) (ap (λ (t : List ℕ). b ∷ t) e)) in
+    elim (cases_Bool (eqb b 10)) [
+      | inl e ↦ subst Filled (sym (slice_split-cons_yes (λ byte. eqb byte 10) b (c ∷ cs) e)) (filled_behind [] (parts (c ∷ cs)) (some_part (c ∷ cs)) rest)
+      | inr e ↦ subst Filled (sym (slice_split-cons_no (λ byte. eqb byte 10) b (c ∷ cs) e)) (filled_onto b (parts (c ∷ cs)) (some_part (c ∷ cs)) rest)
     ]
 
-bytes_of_left : (slices : List (Bor (List ℕ))) (line : Bor (List ℕ)) (goes : Bool) → bytes_of (cond goes slices (slices ++ line ∷ [])) ≡ cond goes (bytes_of slices) (bytes_of slices ++ line.now ∷ [])
-bytes_of_left slices line true = refl
-bytes_of_left slices line false = map_push (λ x. x.now) slices line
-
--- the parts as slices, of which the last goes if it is empty
-pub lines_from_parts : (text : List ℕ) (slices : List (Bor (List ℕ))) (line : Bor (List ℕ)) (goes : Bool) (left : List (Bor (List ℕ))) → bytes_of (slices ++ line ∷ []) ≡ parts text → goes ≡ eqb (length line.now) 0 → left ≡ cond goes slices (slices ++ line ∷ []) → LinesOf (bytes_of left) text
-lines_from_parts text slices line goes left e g l =
-    let ls = bytes_of slices in
-    subst (λ (x : List (List ℕ)). LinesOf x text) (sym (ap bytes_of l ∙ (bytes_of_left slices line goes ∙ ap (λ (b : Bool). cond b ls (ls ++ line.now ∷ [])) g)))
-    (cut_last text ls line.now (sym (map_push (λ x. x.now) slices line) ∙ e))
-
--- a text has a part
-pub no_parts : (text : List ℕ) → [] ≡ parts text → ⊥
-no_parts text e = omega (arith, some_part text, ap length e)
+-- the parts of a text that is not empty, without the end of its last line if it has one
+pub lines_from_parts : (text : Bor (List ℕ)) (bytes : List ℕ) (front : Option (Bor (List ℕ))) → length text.now ≢ 0 → MatchOption front ((f : List ℕ) → text.now ≢ f ++ (10 ∷ [])) (λ x. text.now ≡ x.now ++ (10 ∷ [])) →
+    bytes ≡ (unwrap_or front text).now → LinesOf (parts bytes) text.now
+lines_from_parts text bytes (Some x) some e r = subst (λ (t : List ℕ). LinesOf (parts t) text.now) (sym r) (record { whole = inl (ended_parts x.now ∙ sym e); plain = plain_parts x.now })
+lines_from_parts text bytes None some f r = subst (λ (t : List ℕ). LinesOf (parts t) text.now) (sym r) (record { whole = inr (filled text.now some f, ended_parts text.now); plain = plain_parts text.now })
+  where
+    filled : (bytes : List ℕ) → length bytes ≢ 0 → ((f : List ℕ) → bytes ≢ f ++ (10 ∷ [])) → Filled (parts bytes)
+    filled [] s f = absurd (s refl)
+    filled (b ∷ bs) s f = last_filled b bs f

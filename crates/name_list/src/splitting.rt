@@ -9,7 +9,10 @@ use std::alloc::{AllocError, Global};
 pub fn lines(heap: Global, text: &[u8]) -> Result<Vec<&[u8]>, AllocError>
     ensures { IfOk result (λ v. LinesOf (bytes_of v.items) text.now) }
 {
-    let mut lines: Vec<&[u8]> = text.split(|byte| *byte == b'\n').collect(heap)?;
-    lines.pop_if(|last| last.is_empty());
-    Ok(lines)
+    // Nothing is stored that is no line: not for an empty text, nor for what stands behind the last end of a line.
+    if text.is_empty() {
+        return Ok(Vec::new(heap));
+    }
+    let text = text.strip_suffix(b"\n").unwrap_or(text);
+    text.split(|byte| *byte == b'\n').collect(heap)
 }
