@@ -1,5 +1,5 @@
 -- Rows hung under another row, one after another, and a row that goes into another.
-use Rattle.std.proofs.Common.{◌≡◌, ℕ, ◌+◌, ◌<◌, ◌≤◌, true, false, eqb, ◌≢◌, List, ◌++◌, map, length, take, drop, set, slice_index_or, Some, None, Option, sym, refl, ap, ◌∙◌, subst, inl, inr, arith}
+use Rattle.std.proofs.Common.{◌≡◌, ℕ, ◌+◌, ◌<◌, ◌≤◌, true, false, cond, eqb, ◌≢◌, List, ◌++◌, map, length, take, drop, set, slice_index_or, Some, None, Option, sym, refl, ap, ◌∙◌, subst, inl, inr, arith}
 use Rattle.std.specs.Option.{MatchOption, IsSomeAnd}
 use Rattle.std.proofs.Math.ListN.{get_or-map}
 use Rattle.std.proofs.lemmas.List.{get_or-set_same, get_or-set_other, get_or_default, length-set, length-map, take_all, drop_all, append-nil}
@@ -10,9 +10,15 @@ use Rattle.pattern.specs.declared.row.Test.{Test}
 use Rattle.pattern.specs.Rows.{Seat, seat, seats, top, row, redirected, retested, merged_row}
 use Rattle.pattern.proofs.SeatLists.{row_seats, seats_set, seats_long}
 
+redirect_other : (z w : ℕ) (r : Seat) → r.up ≢ z → redirected z w r ≡ r
+redirect_other z w r k = ap {B = Seat} (λ b. record { used = r.used; up = cond b w r.up; axis = r.axis; test = r.test }) (ne_eqb r.up z k)
+
+redirect_same : (z w : ℕ) (r : Seat) → r.up ≡ z → redirected z w r ≡ record { used = r.used; up = w; axis = r.axis; test = r.test }
+redirect_same z w r e = ap {B = Seat} (λ b. record { used = r.used; up = cond b w r.up; axis = r.axis; test = r.test }) (eq-eqb r.up z e)
+
 -- a row that is not in use stays so
 free_stays : (z w : ℕ) → 1 ≤ z → redirected z w top ≡ top
-free_stays z w low = let v : eqb 0 z ≡ false = ne_eqb 0 z (omega arith) in rw v refl
+free_stays z w low = redirect_other z w top (omega arith)
 
 -- so that hanging anew those that are in use hangs anew all
 pub each_redirected : (z w : ℕ) (To : Row → Row → Type 0) (o p : Option Row) → 1 ≤ z → ((r q : Row) → To r q → seat (Some q) ≡ redirected z w (seat (Some r))) →
@@ -24,6 +30,9 @@ each_redirected z w To (Some r) (Some q) low k e = k r q e
 -- the first k rows are hung anew
 abbrev pub Rehung : ℕ → ℕ → List (Option Row) → ℕ → List (Option Row) → Type 0
 Rehung z w xs k items = (length items ≡ length xs) × (seats items ≡ map (redirected z w) (take k (seats xs)) ++ drop k (seats xs))
+
+pub rehung_none : (z w : ℕ) (xs : List (Option Row)) → Rehung z w xs 0 xs
+rehung_none z w xs = (refl, refl)
 
 pub rehung_more : (z w k : ℕ) (xs items : List (Option Row)) (o : Option Row) → k < length xs → Rehung z w xs k items → seat o ≡ redirected z w (seat (slice_index_or items k None)) → Rehung z w xs (k + 1) (set items k o)
 rehung_more z w k xs items o h (li, inv) e =

@@ -11,11 +11,12 @@ use Rattle.ways.specs.Merging.{merged}
 use Rattle.tally.proofs.Sums.{bracket_and, bracket_off}
 use Rattle.ways.proofs.Alike.{Alike, tree_alike}
 use Rattle.ways.proofs.Merges.{tree_under, tree_merged}
+use Rattle.ways.proofs.RowSums.{upd_other}
 use Rattle.pattern.specs.declared.row.Test.{Test}
 use Rattle.pattern.specs.declared.row.Test.TheVariants.{Any}
 use Rattle.pattern.specs.Tests.{joined, passes, JoinTold}
 use Rattle.pattern.specs.Rows.{Seat, row, fifteen, has_root, rooted, live, MergedInto, Merged}
-use Rattle.pattern.specs.Questions.{sift, pattern_of}
+use Rattle.pattern.specs.Questions.{pattern_of}
 use Rattle.pattern.proofs.Joined.{join_told}
 use Rattle.pattern.proofs.Trees.{sift_in, sift_drop, sift_cong, fifteen_apart, in_rows, rows_in, height, tree_of, rooted_from}
 
@@ -28,11 +29,22 @@ pub pattern_cong : {T : Type 0} (rows rows' : List ℕ) (up up' : ℕ → ℕ) (
 pattern_cong rows rows' up up' axis axis' gain gain' a b c d =
     ap₂ (λ r u. record { rows = r; up = u; axis = axis; gain = gain }) a b ∙ ap₂ (λ x g. record { rows = rows'; up = up'; axis = x; gain = g }) c d
 
--- z has gone into w, and where it stood it still says under which row it hung, by which axis and with which test
-abbrev pub LeftInto : List Seat → ℕ → ℕ → List Seat → Type 0
-LeftInto rs z w rs' =
-    (t : Test) × (joined (row rs w).test (row rs z).test ≡ Some t)
-    × ((i : ℕ) → row rs' i ≡ record { used = cond (eqb i z) false (row rs i).used; up = cond (eqb (row rs i).up z) w (row rs i).up; axis = (row rs i).axis; test = cond (eqb i w) t (row rs i).test })
+-- row r says what a row says that is not there
+unfoldable pub cleared : {T : Type 0} → (Test → ℕ → T) → Weighted T → ℕ → Weighted T
+cleared gain P r = record { rows = P.rows; up = upd P.up r 0; axis = upd P.axis r (Along Child); gain = upd P.gain r (gain Any) }
+
+-- which nothing asks of a row that is not in use
+pub cleared_alike : {T : Type 0} (gain : Test → ℕ → T) (P : Weighted T) (z : ℕ) → 1 ≤ z → (In z P.rows → ⊥) → Alike (cleared gain P z) P
+unfolding cleared
+cleared_alike gain P z low gone = record {
+  rows = refl;
+  up = λ r i. upd_other P.up z 0 r (apart r i);
+  axis = λ r i. upd_other P.axis z (Along Child) r (apart r i);
+  gain = λ r i. upd_other P.gain z (gain Any) r (elim i [ inl k ↦ λ e. absurd (omega arith) | inr j ↦ apart r j ]);
+}
+  where
+    apart : (r : ℕ) → In r P.rows → r ≢ z
+    apart r i e = gone (subst (λ x. In x P.rows) e i)
 
 module _ {T : Type 0} (S : Semiring T) (gain : Test → ℕ → T) (joins : Joins S gain) where
   gained : (rs : List Seat) (z w : ℕ) (t : Test) → joined (row rs w).test (row rs z).test ≡ Some t →
@@ -42,32 +54,34 @@ module _ {T : Type 0} (S : Semiring T) (gain : Test → ℕ → T) (joins : Join
     | inr k ↦ rw k refl
   ]
 
-  pub merged_array : (rs rs' : List Seat) (z w : ℕ) → LeftInto rs z w rs' → pattern_of gain rs' ≡ merged S (pattern_of gain rs) w z
-  unfolding pattern_of merged upd
+  -- what is made is the merged pattern, in which row z is not there
+  pub merged_array : (rs rs' : List Seat) (z w : ℕ) → MergedInto rs z w rs' → pattern_of gain rs' ≡ cleared gain (merged S (pattern_of gain rs) w z) z
+  unfolding pattern_of merged cleared upd
   merged_array rs rs' z w (t, e, h) = pattern_cong _ _ _ _ _ _ _ _
       (sift_cong fifteen _ (λ r. cond (eqb r z) false (row rs r).used) (λ r _. ap (λ x. x.used) (h r)) ∙ sift_drop fifteen (λ r. (row rs r).used) z fifteen_apart)
       (fun_ext (λ r. ap (λ x. x.up) (h r)))
       (fun_ext (λ r. ap (λ x. x.axis) (h r)))
-      (fun_ext (λ r. ap (λ x. gain x.test) (h r) ∙ gained rs z w t e r))
-
-  -- where it says nothing any more, that is so of the rows in use
-  pub merged_alike : (rs rs' : List Seat) (z w : ℕ) → 1 ≤ z → MergedInto rs z w rs' → Alike (pattern_of gain rs') (merged S (pattern_of gain rs) w z)
-  unfolding pattern_of merged upd
-  merged_alike rs rs' z w low (t, e, h) = record {
-    rows = sift_cong fifteen _ (λ r. cond (eqb r z) false (row rs r).used) (λ r _. ap (λ x. x.used) (h r)) ∙ sift_drop fifteen (λ r. (row rs r).used) z fifteen_apart;
-    up = λ r i. ap (λ x. x.up) (h r) ∙ ap (λ b. cond b 0 (cond (eqb (row rs r).up z) w (row rs r).up)) (other r (in_use r i));
-    axis = λ r i. ap (λ x. x.axis) (h r) ∙ ap (λ b. cond b (Along Child) (row rs r).axis) (other r (in_use r i));
-    gain = λ r i. ap (λ x. gain x.test) (h r) ∙ ap (λ b. gain (cond b Any (cond (eqb r w) t (row rs r).test))) (elim i [ inl k ↦ ne_eqb r z (omega arith) | inr j ↦ other r (in_use r j) ]) ∙ gained rs z w t e r;
-  }
+      (fun_ext (λ r. ap (λ x. gain x.test) (h r) ∙ emptied r))
     where
-      in_use : (r : ℕ) → In r (sift fifteen (λ r. (row rs' r).used)) → (row rs' r).used ≡ true
-      in_use r i = (sift_in fifteen (λ r. (row rs' r).used) r i).1
-
-      other : (r : ℕ) → (row rs' r).used ≡ true → eqb r z ≡ false
-      other r u = elim (cases_Bool (eqb r z)) [
-        | inl k ↦ absurd (both_ways _ (ap (λ x. x.used) (h r) ∙ ap (λ b. cond b false (row rs r).used) k) u)
-        | inr k ↦ k
+      emptied : (r : ℕ) → gain (cond (eqb r z) Any (cond (eqb r w) t (row rs r).test))
+          ≡ cond (eqb r z) (gain Any) (cond (eqb r w) (λ p. S.times (gain (row rs w).test p) (gain (row rs z).test p)) (gain (row rs r).test))
+      emptied r = elim (cases_Bool (eqb r z)) [
+        | inl k ↦ rw k refl
+        | inr k ↦ rw k (gained rs z w t e r)
       ]
+
+  gone : (rs rs' : List Seat) (z w : ℕ) → MergedInto rs z w rs' → In z (merged S (pattern_of gain rs) w z).rows → ⊥
+  unfolding pattern_of cleared
+  gone rs rs' z w m i =
+      let (t, e, h) = m in
+      both_ways _ (ap (λ x. x.used) (h z) ∙ ap (λ b. cond b false (row rs z).used) (eq-eqb z z refl))
+      (sift_in fifteen (λ r. (row rs' r).used) z (subst (In z) (sym (ap (λ P. P.rows) (merged_array rs rs' z w m))) i)).1
+
+  -- so it is the merged pattern in the rows in use
+  pub merged_alike : (rs rs' : List Seat) (z w : ℕ) → 1 ≤ z → MergedInto rs z w rs' → Alike (pattern_of gain rs') (merged S (pattern_of gain rs) w z)
+  merged_alike rs rs' z w low m =
+      subst (λ P. Alike P (merged S (pattern_of gain rs) w z)) (sym (merged_array rs rs' z w m))
+      (cleared_alike gain (merged S (pattern_of gain rs) w z) z low (gone rs rs' z w m))
 
 -- the tree is the same in every semiring; the least is of one element
 abbrev pub least : Semiring (Unit {0})

@@ -20,7 +20,7 @@ use Rattle.pattern.specs.Questions.{sift, pattern_of}
 use Rattle.pattern.specs.Rows.{Seat, top, row, hung, rehung, has_root, second, inner, deep, free_two, room, live, fifteen, rooted, MovedTo, moved_output}
 use Rattle.pattern.specs.Tests.{joined}
 use Rattle.pattern.specs.declared.row.Test.{Test}
-use Rattle.pattern.proofs.MergedRows.{Joins, pattern_cong, LeftInto, merged_array, merged_alike, merged_top, least, none, up_within, up_live, into_live}
+use Rattle.pattern.proofs.MergedRows.{Joins, pattern_cong, cleared, merged_array, merged_alike, merged_top, least, none, up_within, up_live, into_live}
 use Rattle.pattern.proofs.Trees.{sift_cong, in_rows, rows_in, height, tree_of, rooted_from}
 
 -- Z under W by the axis x
@@ -64,11 +64,11 @@ upd_id f z v e =
       | inr k ↦ upd_other f z v i k
     ])
 
--- row z has been moved by one move of the table; after a join it still says what it said
-abbrev pub LeftTo : List Seat → ℕ → Move → List Seat → Type 0
-LeftTo rs z Up rs' = rs' ≡ rehung rs z (second rs z) (row rs z).axis
-LeftTo rs z (Between a b) rs' = rs' ≡ rehung (rehung rs z (second rs z) (Along a)) (row rs z).up z (Along b)
-LeftTo rs z (Join a) rs' = LeftInto (rehung rs (row rs z).up (second rs z) (Along a)) z (second rs z) rs'
+-- after a join row z is not there
+abbrev pub without : {T : Type 0} → (Test → ℕ → T) → ℕ → Move → Weighted T → Weighted T
+without gain z Up P = P
+without gain z (Between a b) P = P
+without gain z (Join a) P = cleared gain P z
 
 -- what a deep row is
 pub inner_parts : (rs : List Seat) (z : ℕ) → length rs ≡ 16 → inner rs z ≡ true → (1 ≤ z) × (z < 16) × ((row rs z).used ≡ true)
@@ -131,7 +131,7 @@ module _ (rs : List Seat) (len : length rs ≡ 16) (ok : rooted rs ≡ true) (z 
       hooked_array rs y w (Along a) (omega arith) gain
       ∙ ap (λ u. record { rows = sift fifteen (λ r. (row rs r).used); up = u; axis = upd (λ r. (row rs r).axis) y (Along a); gain = λ r. gain (row rs r).test }) (upd_id (λ r. (row rs r).up) y w refl)
 
-  pub moved_array : {T : Type 0} (S : Semiring T) (gain : Test → ℕ → T) → Joins S gain → (m : Move) (rs' : List Seat) → LeftTo rs z m rs' → pattern_of gain rs' ≡ moved S (pattern_of gain rs) w y z m
+  pub moved_array : {T : Type 0} (S : Semiring T) (gain : Test → ℕ → T) → Joins S gain → (m : Move) (rs' : List Seat) → MovedTo rs z m rs' → pattern_of gain rs' ≡ without gain z m (moved S (pattern_of gain rs) w y z m)
   unfolding moved hooked pattern_of axed
   moved_array S gain joins Up rs' e =
       ap (pattern_of gain) e ∙ hooked_array rs z w (row rs z).axis (omega arith) gain
@@ -142,9 +142,9 @@ module _ (rs : List Seat) (len : length rs ≡ 16) (ok : rooted rs ≡ true) (z 
       let h = y_high in
       ap (pattern_of gain) e ∙ hooked_array one y z (Along b) (omega arith) gain
       ∙ ap (λ P. hooked P y z (Along b)) (hooked_array rs z w (Along a) (omega arith) gain)
-  moved_array S gain joins (Join a) rs' m = merged_array S gain joins (rehung rs y w (Along a)) rs' z w m ∙ ap (λ P. merged S P w z) (first_hung S gain a)
+  moved_array S gain joins (Join a) rs' m = merged_array S gain joins (rehung rs y w (Along a)) rs' z w m ∙ ap (λ P. cleared gain (merged S P w z) z) (first_hung S gain a)
 
-  -- where z says nothing any more after a join, that is so of the rows in use
+  -- so it is the moved pattern in the rows in use
   pub moved_alike : {T : Type 0} (S : Semiring T) (gain : Test → ℕ → T) → Joins S gain → (m : Move) (rs' : List Seat) → MovedTo rs z m rs' → Alike (pattern_of gain rs') (moved S (pattern_of gain rs) w y z m)
   moved_alike S gain joins Up rs' e = same_alike _ _ (moved_array S gain joins Up rs' e)
   moved_alike S gain joins (Between a b) rs' e = same_alike _ _ (moved_array S gain joins (Between a b) rs' e)

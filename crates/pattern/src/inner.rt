@@ -1,5 +1,5 @@
 // A row of a pattern, looked up by its number.
-ghost use Rattle.std.specs.Prelude.{◌≡◌, ◌≤◌, true, false, Some, None, MatchResult, slice_index_or};
+ghost use Rattle.std.specs.Prelude.{◌≡◌, ◌≤◌, true, false, Some, None, MatchResult, codes, slice_index_or};
 ghost use Rattle.pattern.specs.Rows.{seats, inner, deep};
 
 use crate::base::Pattern;
@@ -14,6 +14,8 @@ use std::fmt;
 pub struct NoSuchRow;
 
 impl fmt::Display for NoSuchRow {
+    ghost output = { λ _. Some (codes "the pattern has no rows as the change needs them") };
+
     fn fmt<W: fmt::Write>(&self, f: &mut fmt::Formatter<W>) -> fmt::Result {
         f.write_str("the pattern has no rows as the change needs them")
     }

@@ -11,7 +11,9 @@ fn narrower(a: Test, b: Test) -> Option<Test>
     match (a, b) {
         (Test::Any, test) | (test, Test::Any) => Some(test),
         (Test::Star, label @ Test::Label(_)) | (label @ Test::Label(_), Test::Star) => Some(label),
-        (a, b) => (a == b).then_some(a),
+        (Test::Star, Test::Star) | (Test::Root, Test::Root) => Some(a),
+        (Test::Label(n), Test::Label(m)) if n == m => Some(a),
+        _ => None,
     }
 }
 
