@@ -23,6 +23,12 @@ module _ {A : Type 0} (f : ℕ → Option A) where
   abbrev pub Quiet : ℕ → Type 0
   Quiet i = (k : ℕ) → 1 ≤ k → k < i → f k ≡ None
 
+  pub quiet_none : Quiet 1
+  quiet_none k h l = absurd (omega arith)
+
+  pub quiet_more : (i : ℕ) → Quiet i → f i ≡ None → Quiet (i + 1)
+  quiet_more i q e k h l = elim (cases_eq k i) [ inl s ↦ subst (λ n. f n ≡ None) (sym s) e | inr s ↦ q k h (omega (arith, l, s)) ]
+
   skip : (r : ℕ) (rs : List ℕ) → f r ≡ None → first_some f (r ∷ rs) ≡ first_some f rs
   unfolding first_some
   skip r rs e = rw (first_some, e) refl
